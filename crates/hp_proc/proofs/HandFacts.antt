@@ -2,10 +2,13 @@ pub mod Boxed
 pub mod HandAsked
 pub mod HandCalls
 pub mod HandCut
+pub mod HandExternal
 pub mod HandGiven
 pub mod HandGrown
 pub mod HandMarks
 pub mod HandMoved
+pub mod HandTied
 pub mod HandTried
+pub mod HeldOn
 pub mod Holds
 pub mod OnceHeld

@@ -31,6 +31,7 @@ mod Registered
 mod RegisteredHere
 pub mod RegisteredLines
 mod ReleasedMemory
+mod SharedMarks
 mod Reservations
 pub mod Rising
 pub mod SocketHeapLemmas

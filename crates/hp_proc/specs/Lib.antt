@@ -39,6 +39,7 @@ pub mod ZonesInHand
 pub mod OwnChunks
 pub mod ExternalAnswers
 pub mod NamesInHand
+pub mod HeldMarks
 pub mod MarksInHand
 pub mod LockOrder
 pub mod NamesOfLines

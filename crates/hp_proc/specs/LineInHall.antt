@@ -1,11 +1,10 @@
 -- A participant that does a line in a hall: the rule "Lines" of docs/PARTICIPANTS.md.
-use Rattle.std.specs.Prelude.{◌≡◌, ◌≢◌, ◌⊎◌, ℕ, ◌+◌, ◌<◌, ◌≤◌, ◌^◌, ◌==◌, true, List, [], ◌∷◌, ◌++◌, Contains, map, Option, Some, None, if◌then◌else◌, ⊤}
+use Rattle.std.specs.Prelude.{◌≡◌, ◌≢◌, ◌⊎◌, ℕ, ◌+◌, ◌<◌, ◌≤◌, ◌^◌, true, List, [], ◌∷◌, ◌++◌, Contains, map, Option, Some, None, if◌then◌else◌, ⊤}
 use Rattle.std.specs.List.{All, find}
 use Rattle.std.specs.Option.{option_map, option_to_list}
-use Rattle.hp_base.specs.declared.chunk.Chunk.{Chunk}
 use Rattle.hp_base.specs.declared.row.Row.{Row}
 use Rattle.hp_hall.specs.Giving.{IsGiveOf}
-use Rattle.hp_hall.specs.HallState.{Did, HallState, HasMapped, IsLater, MayServe, OthersStay, SlotsStay, known_to}
+use Rattle.hp_hall.specs.HallState.{Did, HallState, HasMapped, IsLater, OthersStay, SlotsStay, known_to}
 use Rattle.hp_hall.specs.Holding.{IsPartBeside}
 use Rattle.hp_hall.specs.Mail.{MailStep, Takes}
 use Rattle.hp_hall.specs.Naming.{marked_by}
@@ -40,7 +39,6 @@ use Rattle.hp_proc.specs.SharedNames.{SharedNames, directory_in, heaps_in}
 use Rattle.hp_serve.specs.InHall.{CanServe, IsTiedIn, RemainsIn, marked_in}
 use Rattle.hp_serve.specs.Party.{IsSameParty, Party}
 use Rattle.hp_serve.specs.SegmentSlot.{MayHold}
-use Rattle.hp_serve.specs.Tied.{IsTiedAs}
 use Rattle.hp_stats.specs.StatViews.{PenView}
 use Rattle.hp_zone.specs.declared.names.Names.{Names as NamesView}
 
@@ -172,32 +170,6 @@ pub record LeavesAlone (me : ℕ) (old new : ParticipantView) (from to : HallSta
   pub changes : ChangesRoster me old new from to
   pub own : to.own me ≡ from.own me
   pub ready : MayDo (moment me old from) → MayDo (moment me new to)
-
--- the chunks of each heap that have its mark, with the heap in its hand as that is by now
-abbrev pub marked_with : ℕ → HeapView → HallState → ℕ → List Chunk
-marked_with me heap state index = if index == heap.plain.index then marked_by me heap.plain else marked_in me state index
-
--- its table is what the hall knows of it, but for its marks in the heap in its hand
-abbrev pub IsTiedWith : ℕ → Party → HeapView → HallState → Type 0
-IsTiedWith me party heap state =
-    IsTiedAs (state.seen me) (state.own me) (marked_with me heap state) (state.joined me) party.joined party.maps
-
--- its marks are those that it had with that heap in its hand
-abbrev pub HasMarksOf : ℕ → HeapView → HallState → HallState → Type 0
-HasMarksOf me heap old new = (index : ℕ) → marked_in me new index ≡ marked_with me heap old index
-
--- it has a heap in hand, in which its own marks may have changed: its table is tied to these, and they are what it notes to be attached; its asks
--- are settled, it is in the roster where its lines left it attached, the names that it sees opened with the heaps of the pools' sockets, and where
--- it is in the roster its own table has the heap's pages
-pub record HoldsMarked (me : ℕ) (doer : ParticipantView) (heap : HeapView) (state : HallState) : Type 0 where
-  pub may : MayServe me state
-  pub tied : IsTiedWith me doer.party heap state
-  pub chunks : (index : ℕ) → AreMarkedAs index (marked_with me heap state index) doer.context.standing.chunks
-  pub in_hand : IsInHand state.taken (moment me doer state) heap
-  pub settled : AreSettled (moment me doer state)
-  pub attached : state.joined me ≡ doer.context.standing.attached
-  pub named : (state.named me).sockets ≡ sockets_of doer.context.pools
-  pub mapped : HasMapped me state
 
 -- it has a heap in hand, and may do something with it: it can serve, its asks are settled, it is in the roster where its lines left it
 -- attached, its own marks there are as it gave them back last, and in all heaps they are what it notes to be attached; the names that it sees

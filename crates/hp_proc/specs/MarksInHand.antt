@@ -8,7 +8,7 @@ use Rattle.hp_hall.specs.Values.{IsSoundKept}
 use Rattle.hp_hall.specs.declared.kept.Kept.TheVariants.{Names}
 use Rattle.hp_hall.specs.declared.slot.TheConstants.{NAMES_SLOT}
 use Rattle.hp_heap.specs.History.{HeapView}
-use Rattle.hp_proc.specs.LineInHall.{HoldsMarked}
+use Rattle.hp_proc.specs.HeldMarks.{HoldsMarked}
 use Rattle.hp_proc.specs.NamesInHand.{with_naming}
 use Rattle.hp_proc.specs.ParticipantView.{ParticipantView}
 use Rattle.hp_serve.specs.Party.{IsSameParty}

@@ -3,6 +3,7 @@ pub mod Attached
 mod AttachedTold
 pub mod Carrying
 pub mod ChunksMarked
+pub mod ChunksTied
 pub mod AttachReady
 mod ChunksBeside
 pub mod GivenSteps

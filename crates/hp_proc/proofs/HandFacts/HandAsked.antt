@@ -40,8 +40,9 @@ use Rattle.hp_serve.specs.Party.{IsSameParty}
 use Rattle.hp_proc.specs.ParticipantView.{ParticipantView, after_call}
 use Rattle.hp_proc.specs.Progress.{Does, IsInHand, Moment, caller_of, in_hand, moment_of, with_hand}
 use Rattle.hp_serve.specs.declared.pages_asked.PagesAsked.{PagesAsked}
-use Rattle.hp_proc.proofs.HandFacts.HandCalls.{GoesOnHeld, call_index, call_serves, hand_apart, hand_here, hand_serves, leaves_held, numbered_next, own_behind}
+use Rattle.hp_proc.proofs.HandFacts.HandCalls.{call_index, call_serves, hand_apart, hand_here, hand_serves, numbered_next, own_behind}
 use Rattle.hp_proc.proofs.HandFacts.HandGiven.{sums_same}
+use Rattle.hp_proc.proofs.HandFacts.HeldOn.{GoesOnHeld, leaves_held}
 use Rattle.hp_proc.proofs.Halted.{halts_then}
 use Rattle.hp_proc.proofs.Joining.{context_still, goes_as}
 

@@ -1,10 +1,9 @@
 -- A heap in hand, and what a call of it makes of what is known.
-use Rattle.std.proofs.Common.{◌≡◌, ◌≢◌, ◌∙◌, ℕ, ◌+◌, ◌<◌, Bool, true, false, cond, eqb, eq-eqb, List, [], ◌∷◌, ◌++◌, length, append-nil, append_assoc, Contains, Option, Some, None, refl, ap, sym, subst, ⊎_elim, arith, inl}
+use Rattle.std.proofs.Common.{◌≡◌, ◌≢◌, ◌∙◌, ℕ, ◌+◌, ◌<◌, Bool, true, false, cond, eqb, eq-eqb, List, [], ◌∷◌, ◌++◌, length, append-nil, append_assoc, Option, Some, None, refl, ap, sym, subst, ⊎_elim, arith}
 use Rattle.std.proofs.lemmas.Bool.{cond-false, cond-true}
 use Rattle.std.proofs.lemmas.Bool.Decides.{eqb_tells}
 use Rattle.std.proofs.lemmas.List.{length-append}
 use Rattle.std.proofs.lemmas.List.Elements.{filter-append}
-use Rattle.hp_base.specs.declared.chunk.Chunk.{Chunk}
 use Rattle.hp_base.specs.declared.limits.TheConstants.{MAX_HEAPS}
 use Rattle.hp_base.specs.declared.tag.Caller.{Caller}
 use Rattle.hp_base.specs.declared.row.Run.{Run}
@@ -22,15 +21,12 @@ use Rattle.hp_hall.specs.Giving.{IsNumbered, entries_made}
 use Rattle.hp_hall.specs.Holding.{HasPages, HeapPart, IsHeldWith}
 use Rattle.hp_segs.specs.Standing.{Holding}
 use Rattle.hp_hall.specs.Mail.{MailStep}
-use Rattle.hp_hall.specs.AgreedNames.{chunk_memory}
-use Rattle.hp_hall.specs.Naming.{IsBesideNames, LeavesNames, MarksStayBut, naming_of}
-use Rattle.hp_hall.specs.declared.slot.TheConstants.{NAMES_SLOT}
-use Rattle.hp_hall.proofs.ClaimedChunks.{claimed_alike, claimed_all}
+use Rattle.hp_hall.specs.Naming.{IsBesideNames}
 use Rattle.hp_hall.proofs.NamesLeft.{call_leaves, leaves_same}
 use Rattle.hp_hall.specs.declared.kept.Kept.{Kept}
 use Rattle.hp_log.specs.declared.log_record.LogRecord.{LogRecord}
-use Rattle.hp_segs.specs.declared.external_range.ExternalRange.{ExternalRange}
 use Rattle.hp_segs.specs.declared.outcome.AskLog.{AskLog}
+use Rattle.hp_proc.proofs.HandFacts.HeldOn.{GoesOnHeld, leaves_held}
 use Rattle.hp_proc.specs.Acting.{Acts, AreAsked}
 use Rattle.hp_proc.specs.Courses.{OwnCall}
 use Rattle.hp_proc.specs.Doing.{Deed, Doing, Goes, Leads}
@@ -40,25 +36,6 @@ use Rattle.hp_proc.specs.Histories.{entries_for, entry_for}
 use Rattle.hp_proc.specs.ParticipantView.{ParticipantView, after_call}
 use Rattle.hp_stats.specs.StatViews.{PenView}
 use Rattle.hp_proc.specs.Progress.{Does, DoesIn, IsInHand, IsTakenWith, Moment, caller_of, in_hand, moment_of, with_hand}
-
--- a heap that is held came to be another that may be held as well: where the names are in nobody's hand that its holder knows of, they say the
--- same of it; the marks of others are as they were; and the memory of its chunks is claimed, as far as its holder knows what is
-pub record GoesOnHeld (taken : ℕ → Option Kept) (me : ℕ) (claims : Option (List ExternalRange)) (old new : PlainHeap) : Type 0 where
-  pub named : taken NAMES_SLOT ≡ None → naming_of new ≡ naming_of old
-  pub marks : MarksStayBut me old new
-  pub claimed : (these : List ExternalRange) (chunk : Chunk) → claims ≡ Some these → Contains new.chunks chunk → Contains these (chunk_memory chunk)
-
--- so it is where all that the names speak of is as it was
-pub leaves_held : (taken : ℕ → Option Kept) (me : ℕ) (claims : Option (List ExternalRange)) (old new : PlainHeap) → LeavesNames me old new
-    → ((these : List ExternalRange) (chunk : Chunk) → claims ≡ Some these → Contains old.chunks chunk → Contains these (chunk_memory chunk))
-    → GoesOnHeld taken me claims old new
-leaves_held taken me claims old new leaves all = record {
-  named = λ none. leaves.naming;
-  marks = leaves.marks;
-  claimed = λ these chunk knows among.
-      claimed_all ⊥ these new.chunks (λ no. no)
-      (claimed_alike ⊥ ⊥ these old new (λ no. no) leaves.naming (λ its has. inl (all these its knows has))) chunk among;
-}
 
 -- a call leaves index and socket of a heap
 pub call_index : (caller : Caller) (call : HeapCall) (answer : HeapAnswer) (old new : HeapView) → IsCall caller call answer old new
@@ -260,7 +237,7 @@ module _ (doer : ParticipantView) (parts : ℕ → HeapPart) (log : List LogReco
         (leaves_held taken doer.party.me (parts old.plain.index).claims old.plain new.plain
         (call_leaves (caller_of doer) call answer old new is hand.sound.tiled beside) hand.claimed)
 
-    held_still : (holding : Option Holding) → new.plain.pages ≡ old.plain.pages → run_grown call ≡ [] → run_cut answer ≡ []
+    pub held_still : (holding : Option Holding) → new.plain.pages ≡ old.plain.pages → run_grown call ≡ [] → run_cut answer ≡ []
         → IsHeldWith old holding → IsHeldWith new holding
     held_still None same none whole held = absurd held
     held_still (Some holding) same none whole held =

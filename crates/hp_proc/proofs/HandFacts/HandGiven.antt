@@ -17,7 +17,6 @@ use Rattle.hp_heap.specs.declared.entry.Entry.{Entry}
 use Rattle.hp_hall.specs.Giving.{IsNumbered, entries_made}
 use Rattle.hp_hall.specs.Asks.{ClaimsGrants, IsClaimedIn}
 use Rattle.hp_hall.specs.Holding.{AreApart, HeapPart, IsAsPart, IsClaimedFor, IsPartTaken, IsSettledFor, IsTakenAs, StandsFor, part_ended}
-use Rattle.hp_hall.specs.HallState.{HallState, IsLater}
 use Rattle.hp_hall.specs.Naming.{marked_by}
 use Rattle.hp_hall.specs.declared.kept.Kept.{Kept}
 use Rattle.hp_hall.specs.declared.kept.Kept.TheVariants.{Heap}
@@ -35,10 +34,7 @@ use Rattle.hp_segs.specs.Standing.{Holding}
 use Rattle.hp_segs.specs.declared.ask.Ask.{Ask}
 use Rattle.hp_segs.specs.declared.outcome.AskLog.{AskLog}
 use Rattle.hp_stats.specs.StatViews.{PenView}
-use Rattle.hp_serve.proofs.Handed.{tied_still}
-use Rattle.hp_serve.specs.InHall.{IsTiedIn, marked_in}
-use Rattle.hp_serve.specs.Party.{IsSameParty, Party}
-use Rattle.hp_proc.specs.LineInHall.{HasMarksOf, IsTiedWith, marked_with}
+use Rattle.hp_serve.specs.Party.{IsSameParty}
 use Rattle.hp_proc.specs.ParticipantView.{ParticipantView}
 use Rattle.hp_proc.specs.Progress.{AreSettled, IsInHand, MayDo, moment_of, with_hand}
 use Rattle.hp_proc.proofs.Joining.{goes_as}
@@ -335,15 +331,3 @@ pub still_home : (old new : ℕ → Type 0) (index : ℕ) → ((number : ℕ) �
     → ((number : ℕ) → number ≢ index → old number → new number) → new index → (number : ℕ) → number ≤ MAX_HEAPS → new number
 still_home old new index home others still number few = ⊎_elim
     (λ its. subst new (sym its.1) still) (λ other. others number other.1 (home number few)) (eqb_tells number index)
-
--- so a table that was tied to these is tied once the heap is given
-pub tied_given : (me : ℕ) (party : Party) (heap : HeapView) {a b : HallState} → IsLater a b → b.joined me ≡ a.joined me → b.own me ≡ a.own me
-    → HasMarksOf me heap a b → IsTiedWith me party heap a → IsTiedIn me party b
-tied_given me party heap {a} {b} later joined own marks tied =
-    let seen = later.seen me in
-    record {
-      table = tied_still (a.seen me) (b.seen me) seen.0 (a.own me) (b.own me) (marked_with me heap a) (marked_in me b) party.joined party.maps seen.1
-          own marks tied.table;
-      same = joined ∙ tied.same;
-      left = λ out index. marks index ∙ tied.left out index;
-    }

@@ -3,14 +3,16 @@ use Rattle.std.proofs.Common.{◌≡◌, ◌∙◌, ℕ, eqb, List, map, ap, sym
 use Rattle.std.proofs.lemmas.Bool.{cond-false, cond-true}
 use Rattle.std.proofs.lemmas.Bool.Decides.{eqb_tells}
 use Rattle.hp_base.specs.declared.chunk.Chunk.{Chunk}
-use Rattle.hp_hall.specs.HallState.{HallState}
+use Rattle.hp_hall.specs.HallState.{HallState, IsLater}
 use Rattle.hp_hall.specs.Naming.{marked_by}
 use Rattle.hp_heap.specs.History.{HeapView, SameButSpare}
 use Rattle.hp_heap.specs.PlainHeap.{PlainHeap}
 use Rattle.hp_proc.specs.Contexts.{Context}
-use Rattle.hp_proc.specs.LineInHall.{HoldsIn, HoldsMarked, IsTiedWith, marked_with}
+use Rattle.hp_proc.specs.HeldMarks.{HasMarksOf, HoldsMarked, IsTiedWith, marked_with}
+use Rattle.hp_proc.specs.LineInHall.{HoldsIn}
 use Rattle.hp_proc.specs.OwnChunks.{AreMarkedAs, chunks_of, own_chunk}
 use Rattle.hp_proc.specs.ParticipantView.{ParticipantView, with_calls}
+use Rattle.hp_serve.proofs.Handed.{tied_still}
 use Rattle.hp_serve.proofs.Tying.{tied_marks}
 use Rattle.hp_serve.specs.InHall.{IsTiedIn, marked_in}
 use Rattle.hp_serve.specs.Party.{Party}
@@ -65,3 +67,15 @@ pub spared_marks : (me : ℕ) (old new : HeapView) (state : HallState) → SameB
     → marked_by me old.plain ≡ marked_in me state old.plain.index → marked_by me new.plain ≡ marked_in me state new.plain.index
 spared_marks me old new state same own =
     subst (λ (plain : PlainHeap). marked_by me plain ≡ marked_in me state plain.index) (sym same.plain) own
+
+-- a table that was tied to the marks of the heap in hand is tied once that is given
+pub tied_given : (me : ℕ) (party : Party) (heap : HeapView) {a b : HallState} → IsLater a b → b.joined me ≡ a.joined me → b.own me ≡ a.own me
+    → HasMarksOf me heap a b → IsTiedWith me party heap a → IsTiedIn me party b
+tied_given me party heap {a} {b} later joined own marks tied =
+    let seen = later.seen me in
+    record {
+      table = tied_still (a.seen me) (b.seen me) seen.0 (a.own me) (b.own me) (marked_with me heap a) (marked_in me b) party.joined party.maps seen.1
+          own marks tied.table;
+      same = joined ∙ tied.same;
+      left = λ out index. marks index ∙ tied.left out index;
+    }

@@ -23,8 +23,9 @@ use Rattle.hp_proc.specs.Heaps.{sockets_of}
 use Rattle.hp_serve.specs.Party.{IsSameParty}
 use Rattle.hp_proc.specs.ParticipantView.{ParticipantView}
 use Rattle.hp_proc.specs.Progress.{IsInHand, caller_of, moment_of, with_hand}
-use Rattle.hp_proc.proofs.HandFacts.HandCalls.{call_index, call_serves, hand_apart, hand_claims, hand_here, hand_serves, hand_told, leaves_held, numbered_on}
+use Rattle.hp_proc.proofs.HandFacts.HandCalls.{call_index, call_serves, hand_apart, hand_claims, hand_here, hand_serves, hand_told, numbered_on}
 use Rattle.hp_proc.proofs.HandFacts.HandGiven.{sums_same}
+use Rattle.hp_proc.proofs.HandFacts.HeldOn.{leaves_held}
 
 -- a part but for what the segment value has for its heap, and for the armed ask
 pub record IsSamePart (old new : HeapPart) : Type 0 where

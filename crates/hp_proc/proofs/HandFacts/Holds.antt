@@ -13,18 +13,17 @@ use Rattle.hp_proc.specs.Courses.{Standing}
 use Rattle.hp_base.specs.declared.pool_line.PoolLine.{PoolLine}
 use Rattle.hp_proc.specs.Doing.{Doing}
 use Rattle.hp_proc.specs.Heaps.{sockets_of}
+use Rattle.hp_proc.specs.HeldMarks.{HasMarksOf, IsTiedWith}
 use Rattle.hp_proc.specs.LineInHall.{
   AreFreeBut,
   ChangesRoster,
   HasCalled,
-  HasMarksOf,
   HasRoom,
   HoldsIn,
   IsFreeAt,
   IsIdleIn,
   IsReadyAgain,
   IsReadyIn,
-  IsTiedWith,
   KeepsHeld,
   TableStays,
   did_in,

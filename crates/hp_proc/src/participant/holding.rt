@@ -10,7 +10,8 @@ ghost use Rattle.hp_proc.specs.ExternalLines.{seeing_heap};
 ghost use Rattle.hp_serve.specs.Party.{IsSameParty};
 ghost use Rattle.hp_proc.specs.Progress.{AreSettled, Does, IsInHand, IsTakenWith, MayDo, in_hand};
 ghost use Rattle.hp_hall.specs.HallState.{IsBusy, OthersStay, SlotsStayBut};
-ghost use Rattle.hp_proc.specs.LineInHall.{AreFreeBesideNames, HaltsHere, HasCalledBeside, HasMarksOf, HasRoom, HoldsHeap, IsFreeAt, IsReadyBut, IsTiedWith, MayGiveBeside, TableStays, did_in, moment, moment_with};
+ghost use Rattle.hp_proc.specs.HeldMarks.{HasMarksOf, IsTiedWith};
+ghost use Rattle.hp_proc.specs.LineInHall.{AreFreeBesideNames, HaltsHere, HasCalledBeside, HasRoom, HoldsHeap, IsFreeAt, IsReadyBut, MayGiveBeside, TableStays, did_in, moment, moment_with};
 ghost use Rattle.hp_serve.specs.InHall.{IsTiedIn};
 
 use super::Participant;

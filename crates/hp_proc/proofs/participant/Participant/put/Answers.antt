@@ -25,7 +25,8 @@ use Rattle.hp_proc.specs.ParticipantView.{ParticipantView}
 use Rattle.hp_proc.specs.Progress.{AreSettled, IsInHand, IsTakenWith, in_hand}
 use Rattle.hp_serve.proofs.Carrying.{same_party}
 use Rattle.hp_proc.proofs.HandFacts.HandCalls.{hand_serves}
-use Rattle.hp_proc.proofs.HandFacts.HandGiven.{given_entries, given_marked, given_serves, ready_given, tied_given}
+use Rattle.hp_proc.proofs.HandFacts.HandGiven.{given_entries, given_marked, given_serves, ready_given}
+use Rattle.hp_proc.proofs.HandFacts.HandMarks.{tied_given}
 use Rattle.hp_proc.proofs.Joining.{does_still}
 use Rattle.hp_proc.proofs.participant.Participant.put.Goals as goal
 
