@@ -14,7 +14,7 @@ use Rattle.hp_heap.proofs.Members.{Contains-imaged}
 use Rattle.hp_heap.specs.History.{HeapView}
 use Rattle.hp_heap.specs.Tiling.{IsTiled}
 use Rattle.hp_proc.proofs.ReleasedMemory.{one_heap}
-use Rattle.hp_proc.specs.LineInHall.{marked_with}
+use Rattle.hp_proc.specs.HeldMarks.{marked_with}
 use Rattle.hp_proc.specs.NamesInHand.{with_naming}
 use Rattle.hp_segs.specs.SegsView.{SegsView}
 use Rattle.hp_serve.specs.InHall.{marked_in}
