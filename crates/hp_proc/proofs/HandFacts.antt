@@ -1,10 +1,12 @@
 pub mod Boxed
 pub mod HandAsked
+pub mod HandAttaches
 pub mod HandCalls
 pub mod HandCut
 pub mod HandExternal
 pub mod HandGiven
 pub mod HandGrown
+pub mod HandLeaves
 pub mod HandMarks
 pub mod HandMoved
 pub mod HandTied

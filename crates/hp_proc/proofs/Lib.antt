@@ -23,6 +23,8 @@ pub mod MeantHeaps
 pub mod NamesFollow
 mod NamesHeld
 mod NamesRead
+pub mod NotedCame
+pub mod NotedLeft
 pub mod Noted
 pub mod OrdinaryElements
 pub mod PagesStay

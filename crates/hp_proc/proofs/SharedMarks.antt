@@ -36,16 +36,16 @@ marked_to who heap chunk among mark =
 
 module _ (me : ℕ) (heap : PlainHeap) (addr len : ℕ) (chunk : Chunk) (tiled : IsTiled heap) (order : AreInOrder heap.chunks)
     (there : chunk_at addr len heap ≡ Some chunk) where
-  its : Contains heap.chunks chunk
+  pub its : Contains heap.chunks chunk
   its = among_chunks heap addr len chunk there
 
   -- the chunk at that place is the one of its list
-  at_is : (c : Chunk) → Contains heap.chunks c → is_chunk_at addr len c ≡ eqb c.list chunk.list
+  pub at_is : (c : Chunk) → Contains heap.chunks c → is_chunk_at addr len c ≡ eqb c.list chunk.list
   at_is c among =
       AllByRecursion-contains (λ (c : Chunk). is_chunk_at addr len c ≡ eqb c.list chunk.list) heap.chunks c
       (at_is_of heap addr len chunk there tiled order) among
 
-  here : is_chunk_at addr len chunk ≡ true
+  pub here : is_chunk_at addr len chunk ≡ true
   here = at_is chunk its ∙ eq-eqb chunk.list chunk.list refl
 
   away : (c : Chunk) → Contains heap.chunks c → c.list ≢ chunk.list → is_chunk_at addr len c ≡ false
@@ -56,7 +56,7 @@ module _ (me : ℕ) (heap : PlainHeap) (addr len : ℕ) (chunk : Chunk) (tiled :
 
   -- IT IS LEFT
 
-  abbrev left_chunk : Chunk → Chunk
+  abbrev pub left_chunk : Chunk → Chunk
   left_chunk c = cond (is_chunk_at addr len c) (record c { attached = without_mark me c.attached }) c
 
   abbrev left_heap : PlainHeap
@@ -97,7 +97,7 @@ module _ (me : ℕ) (heap : PlainHeap) (addr len : ℕ) (chunk : Chunk) (tiled :
 
   -- IT IS ATTACHED
 
-  abbrev shared_chunk : Chunk → Chunk
+  abbrev pub shared_chunk : Chunk → Chunk
   shared_chunk c = cond (is_chunk_at addr len c) (record c { attached = with_mark me c.attached }) c
 
   abbrev shared_heap : PlainHeap
