@@ -19,6 +19,7 @@ pub mod MadeHeaps
 pub mod Makers
 pub mod Mapped
 mod MarksApart
+mod MayAttachHere
 pub mod MeantHeaps
 pub mod NamesFollow
 mod NamesHeld
