@@ -78,8 +78,9 @@ module _ (segs : SegsView) (who : ℕ) (mine : Mine) (sound : IsSound segs) (own
   -- the segment value has what it knows
   pub segs_stand : mine.who ≡ who → IsArmed segs → ArePending segs → ((claims : List ExternalRange) → mine.claims ≡ Some claims → segs.ranges ≡ claims)
       → ((heap : ℕ) (chunk : Chunk) → heap < MAX_HEAPS → Contains (marked_in heap mine) chunk → Contains segs.ranges (chunk_memory chunk))
-      → AreStanding mine.who (heap_part mine) segs
-  segs_stand its armed pending claims marked = record {
+      → ((heap : ℕ) (naming : Naming) (chunk : Chunk) → heap < MAX_HEAPS → value_of heap mine.namings ≡ Some naming
+      → Contains (marked_in heap mine) chunk → Contains naming.chunks chunk) → AreStanding mine.who (heap_part mine) segs
+  segs_stand its armed pending claims marked named = record {
     held = λ heap holding is. (known_if (holds_heap heap mine) heap segs holding (sym (owner.known heap) ∙ is)).1;
     armed = λ heap. sym owner.armed ∙ ap (armed_ask segs) (sym its);
     asking = λ ask is.
@@ -90,4 +91,5 @@ module _ (segs : SegsView) (who : ℕ) (mine : Mine) (sound : IsSound segs) (own
     pending = pending;
     claims = λ heap known is. claims known is;
     marked = marked;
+    named = named;
   }

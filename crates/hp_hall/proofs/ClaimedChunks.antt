@@ -56,6 +56,14 @@ pub named_chunk : (heap : PlainHeap) (chunk : Chunk) → Contains (naming_of hea
 unfolding naming_of
 named_chunk heap chunk has = Contains-imaged unmarked heap.chunks chunk has
 
+-- so is one that has a participant's mark
+pub marked_named : (who : ℕ) (heap : PlainHeap) (chunk : Chunk) → Contains (marked_by who heap) chunk → Contains (naming_of heap).chunks chunk
+unfolding marked_by
+marked_named who heap chunk has =
+    let its = Contains-imaged unmarked (filter (λ (c : Chunk). has_bit c.attached who) heap.chunks) chunk has in
+    let found = Contains-filter (λ (c : Chunk). has_bit c.attached who) heap.chunks its.0 its.1 in
+    subst (Contains (naming_of heap).chunks) its.2 (chunk_named heap its.0 found.1)
+
 -- names agree with all heaps, and this is one of them
 pub all_claimed : (in_hand : Type 0) (names : NamesView) (namings : ℕ → Naming) (claims : List ExternalRange) → AreAgreedNames names namings claims
     → (index : ℕ) (heap : PlainHeap) → index < MAX_HEAPS → namings index ≡ naming_of heap → AreClaimedOr in_hand claims heap.chunks

@@ -75,7 +75,7 @@ IsClaimedFor heap heard part = (ask : Ask) → part.armed ≡ Some ask → ask.h
 -- which it armed itself last, and that is settled, or else it holds the ask's heap; the open growth and the kept asks are those of the
 -- armed; runs that no heap has claimed are of armed asks, each alone for its heap, and the last one of that; the external memory that is
 -- claimed is what is known of that, where the participant has the names in hand; and the memory of each chunk that has the participant's mark
--- is claimed, whoever has the names in hand
+-- is claimed, whoever has the names in hand, and is one of which they speak, as far as the participant knows what they say
 pub record AreStanding (who : ℕ) (parts : ℕ → HeapPart) (segs : SegsView) : Type 0 where
   pub held : (heap : ℕ) (holding : Holding) → (parts heap).holding ≡ Some holding → holding ≡ standing_of heap segs
   pub armed : (heap : ℕ) → (parts heap).armed ≡ armed_ask segs who
@@ -84,6 +84,8 @@ pub record AreStanding (who : ℕ) (parts : ℕ → HeapPart) (segs : SegsView) 
   pub pending : ArePending segs
   pub claims : (heap : ℕ) (claims : List ExternalRange) → (parts heap).claims ≡ Some claims → segs.ranges ≡ claims
   pub marked : (heap : ℕ) (chunk : Chunk) → heap < MAX_HEAPS → Contains (parts heap).marked chunk → Contains segs.ranges (chunk_memory chunk)
+  pub named : (heap : ℕ) (naming : Naming) (chunk : Chunk) → heap < MAX_HEAPS → (parts heap).naming ≡ Some naming
+      → Contains (parts heap).marked chunk → Contains naming.chunks chunk
 
 -- a heap in hand is as its holder's part says: it takes the pages of that socket, has what its holding names, and is to the names what is known
 -- of it, where its holder has these in hand, and then the memory of its chunks is claimed

@@ -1,7 +1,8 @@
 -- The memory of the chunks of a hall's heaps is claimed, where a slot has changed.
-use Rattle.std.proofs.Common.{◌≡◌, ◌≢◌, ℕ, ◌<◌, Bool, true, List, Option, Some, None, Contains, inl, refl, sym, ap, subst, ◌∙◌, ⊎_elim}
+use Rattle.std.proofs.Common.{◌≡◌, ◌≢◌, ℕ, ◌<◌, Bool, true, false, List, Option, Some, None, Contains, inl, refl, sym, ap, subst, ◌∙◌, ⊎_elim}
 use Rattle.std.specs.Option.{IsSome, option_map}
 use Rattle.std.proofs.lemmas.Bool.{cases_eq}
+use Rattle.std.proofs.lemmas.Option.{none-some, same_Some}
 use Rattle.hp_base.specs.declared.chunk.Chunk.{Chunk}
 use Rattle.hp_base.specs.declared.limits.TheConstants.{MAX_HEAPS}
 use Rattle.hp_heap.specs.History.{HeapView}
@@ -15,12 +16,12 @@ use Rattle.hp_hall.specs.Giving.{GivesForm}
 use Rattle.hp_hall.specs.Mail.{steps_of}
 use Rattle.hp_hall.specs.Naming.{Naming, naming_of}
 use Rattle.hp_hall.specs.Telling.{has_names}
-use Rattle.hp_hall.specs.Values.{chunks_of}
+use Rattle.hp_hall.specs.Values.{chunks_of, marks_of}
 use Rattle.hp_hall.specs.Views.{HeldHeap, held_of}
 use Rattle.hp_hall.specs.declared.kept.Kept.{Kept}
 use Rattle.hp_hall.specs.declared.kept.Kept.TheVariants.{Heap, Names, Segments}
 use Rattle.hp_hall.specs.declared.slot.TheConstants.{NAMES_SLOT}
-use Rattle.hp_hall.proofs.ClaimedChunks.{all_claimed, claimed_given, claimed_still, marks_claimed}
+use Rattle.hp_hall.proofs.ClaimedChunks.{all_claimed, claimed_given, claimed_still, marked_named, marks_claimed}
 use Rattle.hp_plain.specs.HallView.{AreChunksClaimed, HallView, IsWithNames, SlotView, chunks_in, has_names_by, is_held_by, marks_in, naming_in, part_in, slot_at, taken_from}
 use Rattle.hp_plain.proofs.Given.{known}
 use Rattle.hp_plain.proofs.Held.{holding_held, naming_if}
@@ -99,6 +100,21 @@ pub marks_in_claimed : (in_hand : Type 0) (claims : List ExternalRange) (who : �
     → AreClaimedOr in_hand claims (chunks_in slot) → (chunk : Chunk) → Contains (marks_in who slot) chunk → Contains claims (chunk_memory chunk)
 marks_in_claimed in_hand claims who None all chunk has = absurd (Contains-none chunk has)
 marks_in_claimed in_hand claims who (Some slot) all chunk has = marks_claimed in_hand claims who slot.kept all chunk has
+
+-- and it is one of which the names speak, as far as is known
+pub marks_in_named : (who : ℕ) (b : Bool) (slot : Option SlotView) (naming : Naming) (chunk : Chunk) → naming_if b (naming_in slot) ≡ Some naming
+    → Contains (marks_in who slot) chunk → Contains naming.chunks chunk
+marks_in_named who b None naming chunk knows has = absurd (Contains-none chunk has)
+marks_in_named who b (Some slot) naming chunk knows has = by slot.kept b knows has
+  where
+    by : (kept : Kept) (b : Bool) → naming_if b (option_map (λ held. naming_of held.heap.plain) (held_of kept)) ≡ Some naming
+        → Contains (marks_of who kept) chunk → Contains naming.chunks chunk
+    by (Heap heap pen) true knows has =
+        let same : naming_of heap.plain ≡ naming = same_Some (naming_of heap.plain) naming knows in
+        subst (λ (n : Naming). Contains n.chunks chunk) same (marked_named who heap.plain chunk has)
+    by (Heap heap pen) false knows has = absurd (none-some naming knows)
+    by (Segments segs) b knows has = absurd (Contains-none chunk has)
+    by (Names names) b knows has = absurd (Contains-none chunk has)
 
 -- a value that is out is the one that its slot has
 taken_kept : (slot : SlotView) (kept : Kept) → taken_from (Some slot) ≡ Some kept → slot.kept ≡ kept

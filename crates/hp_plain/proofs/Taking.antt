@@ -31,7 +31,7 @@ use Rattle.hp_hall.proofs.AsksOfHalls.GivenAsks.{asker_is}
 use Rattle.hp_hall.proofs.AsksOfHalls.KnownAsks.{settled_is_claimed}
 use Rattle.hp_plain.specs.HallSteps.{home_slot, out_slot}
 use Rattle.hp_plain.specs.HallView.{HallView, IsAskHeld, IsHall, IsHome, IsWithNames, SlotView, chunks_in, has_names_by, heard_in, history_in, is_held_by, is_joined, joined_in, marks_in, names_of_slot, naming_at, naming_in, part_in, part_of, segs_in, serves_in, slot_at}
-use Rattle.hp_plain.proofs.ChunksKept.{AreClaimedIn, marks_in_claimed}
+use Rattle.hp_plain.proofs.ChunksKept.{AreClaimedIn, marks_in_claimed, marks_in_named}
 use Rattle.hp_plain.proofs.Held.{asks_there, claims_if, held_holding, holding_is, home_unheld, naming_if, part_by}
 use Rattle.hp_plain.proofs.NamesKept.{naming_there}
 use Rattle.hp_plain.proofs.Slotted.{MovesSlot, read_alike}
@@ -241,6 +241,8 @@ module _ (me number : ℕ) (kept : Kept) (step : MailStep) (old new : HallView) 
             marks_in_claimed (IsWithNames (slot_at old heap) (slot_at old NAMES_SLOT)) segs.ranges me (slot_at old heap)
             (subst (λ (s : SegsView). AreClaimedIn s.ranges (slot_at old NAMES_SLOT) (slot_at old heap)) same (hall.chunks heap below)) chunk
             (subst (λ (s : Option SlotView). Contains (marks_in me s) chunk) (moves.elsewhere heap (λ at. omega (arith, below, at, fits))) has);
+        named = λ heap naming chunk below.
+            marks_in_named me (has_names_by me (slot_at new NAMES_SLOT)) (slot_at new heap) naming chunk;
       }
 
   -- names at home agree with what their taker then knows

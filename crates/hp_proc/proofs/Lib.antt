@@ -18,6 +18,8 @@ pub mod LinesInHall
 pub mod MadeHeaps
 pub mod Makers
 pub mod Mapped
+mod MarksApart
+mod MayAttachHere
 pub mod MeantHeaps
 pub mod NamesFollow
 mod NamesHeld

@@ -56,4 +56,7 @@ standing_with who parts later taken same are = record {
   pending = are.pending;
   claims = λ heap claims is. are.claims heap claims (sym (ap (λ (part : HeapPart). part.claims) (same heap)) ∙ is);
   marked = λ heap chunk below has. are.marked heap chunk below (subst (λ (part : HeapPart). Contains part.marked chunk) (same heap) has);
+  named = λ heap naming chunk below knows has.
+      are.named heap naming chunk below (sym (ap (λ (part : HeapPart). part.naming) (same heap)) ∙ knows)
+      (subst (λ (part : HeapPart). Contains part.marked chunk) (same heap) has);
 }

@@ -20,7 +20,7 @@ use Rattle.hp_hall.specs.Views.{HeldHeap}
 use Rattle.hp_hall.specs.declared.kept.Kept.{Kept}
 use Rattle.hp_hall.specs.declared.kept.Kept.TheVariants.{Heap, Names, Segments}
 use Rattle.hp_hall.specs.declared.slot.TheConstants.{NAMES_SLOT}
-use Rattle.hp_hall.proofs.ClaimedChunks.{all_claimed, claimed_alike, claimed_given, claimed_still, marks_claimed}
+use Rattle.hp_hall.proofs.ClaimedChunks.{all_claimed, claimed_alike, claimed_given, claimed_still, marked_named, marks_claimed}
 use Rattle.hp_board.specs.Agreed.{AreNamesAgreed, KnowsNaming, naming_in}
 use Rattle.hp_board.specs.Claimed.{AreChunksClaimed, IsWithNames}
 use Rattle.hp_board.specs.Giving.{GivesAt, GivesHeldAt}
@@ -88,6 +88,12 @@ pub marks_are_claimed : (words : List ℕ) (kept : ℕ → Kept) (claimed : AreC
     → Contains (marks_of who (kept slot)) chunk → Contains claimed.segs.ranges (chunk_memory chunk)
 marks_are_claimed words kept claimed who slot below =
     marks_claimed (IsWithNames words slot) claimed.segs.ranges who (kept slot) (claimed.chunks slot below)
+
+-- and is one of which the names speak
+pub marks_are_named : (who : ℕ) (value : Kept) (chunk : Chunk) → Contains (marks_of who value) chunk → Contains (naming_in value).chunks chunk
+marks_are_named who (Heap heap pen) chunk has = marked_named who heap.plain chunk has
+marks_are_named who (Segments segs) chunk has = absurd (Contains-none chunk has)
+marks_are_named who (Names names) chunk has = absurd (Contains-none chunk has)
 
 module _ (opening : Opening) (participants : ℕ) (words : List ℕ) (kept : ℕ → Kept) (mine : ℕ → Mine) (agreed : AreNamesAgreed participants words kept mine)
     (part : Mine) (known : part ≡ mine part.who) (declared : part.who < participants) (wide : length words ≡ WORDS) (slot : ℕ) (inside : slot < SLOTS)

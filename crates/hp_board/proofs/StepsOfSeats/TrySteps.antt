@@ -23,7 +23,7 @@ use Rattle.std.specs.List.{Contains}
 use Rattle.hp_hall.specs.declared.kept.Kept.TheVariants.{Heap, Names, Segments}
 use Rattle.hp_board.specs.Seated.{IsSeatedAt}
 use Rattle.hp_board.specs.Words.{done_word}
-use Rattle.hp_board.proofs.StepsOfSeats.ClaimedSteps.{claimed_same, claimed_take, marks_are_claimed}
+use Rattle.hp_board.proofs.StepsOfSeats.ClaimedSteps.{claimed_same, claimed_take, marks_are_claimed, marks_are_named}
 use Rattle.hp_board.proofs.StepsOfSeats.SegsSteps.{agreed_part, lag_part, segs_look, segs_take}
 use Rattle.hp_board.specs.Steps.{Sat, Tries}
 use Rattle.hp_board.specs.Views.{Learned, claims_taken, namings_taken, value_of, made_in, marked_in, seen_of, BeginsWith, after_take, after_look}
@@ -157,7 +157,17 @@ module _ (opening : Opening) (s : BoardState) (board : IsBoard opening s) (id sl
           let both : Segments board.owned.segs ≡ Segments board.claimed.segs = sym board.owned.there ∙ board.claimed.there in
           let one : board.owned.segs ≡ board.claimed.segs = cc in
           subst (λ (v : SegsView). Contains v.ranges (chunk_memory chunk)) (sym one)
-          (marks_are_claimed s.words board.kept board.claimed part.who heap below chunk marks)))
+          (marks_are_claimed s.words board.kept board.claimed part.who heap below chunk marks))
+          (λ heap naming chunk below knows has.
+          let its : value_of heap (board.mine part.who).namings ≡ Some naming =
+          ap (λ (m : Mine). value_of heap m.namings) (sym seat.known)
+          ∙ (ap (λ (v : Kept). value_of heap (namings_taken v learned part.namings)) (sym is) ∙ knows) in
+          let marks : Contains (marks_of part.who (board.kept heap)) chunk =
+          subst (λ (l : List Chunk). Contains l chunk)
+          (ap (marked_in heap) seat.known ∙ sym (board.marked.own part.who heap seat.declared (omega (arith, below)))) has in
+          subst (λ (n : Naming). Contains n.chunks chunk)
+          (naming_known opening.participants s.words board.kept board.mine board.agreed part.who heap naming seat.declared below its)
+          (marks_are_named part.who (board.kept heap) chunk marks)))
       by (Names names) at is =
           let both : Names names ≡ Names board.agreed.names = sym is ∙ (ap board.kept at.last ∙ board.agreed.there) in
           let same : names ≡ board.agreed.names = cc in
