@@ -9,8 +9,7 @@ const WATCHED: [Row; 5] = [
         "pool 0 2M 4\n0 watch w\n0 alloc a 1000\n0 free a\n",
         &[
             "line 2 0 watch ok",
-            "event 0 w alloc 0x100000000 2097152",
-            "event 0 w free 0x100000000 2097152",
+            "table 0 in 2 0\nevent 0 w alloc 0x100000000 2097152\nevent 0 w free 0x100000000 2097152\nend",
         ],
     ),
     (
