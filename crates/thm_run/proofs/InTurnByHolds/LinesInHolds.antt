@@ -109,7 +109,7 @@ way_ended workload (WentByLines.does_line first old new courses course before st
     }))
 
 -- no heap is in hand after it
-growths_went : {count who : ℕ} {first last : Seat} {courses : List Course} {steps : List MailStep}
+pub growths_went : {count who : ℕ} {first last : Seat} {courses : List Course} {steps : List MailStep}
     → WentByLines count who first last courses steps → (more : List MailStep) → NoneElseGrowsAlong who None (steps ++ more)
     → NoneElseGrowsAlong who None more
 growths_went (WentByLines.begins seat) more along = along
@@ -121,7 +121,7 @@ growths_went {count} {who} (WentByLines.does_line first old new courses course b
     (growths_went went (steps ++ more) (subst (NoneElseGrowsAlong who None) (append_assoc before steps more) along))
 
 -- each ask and each notice took a number
-went_least : {count who : ℕ} {first last : Seat} {courses : List Course} {steps : List MailStep}
+pub went_least : {count who : ℕ} {first last : Seat} {courses : List Course} {steps : List MailStep}
     → WentByLines count who first last courses steps → length (numbered_in (trace_of courses)) ≤ last.party.asked
 went_least {count} {who} {first} {last} {courses} {steps} went =
     let so = way_by_lines count who first last courses steps went in
