@@ -3,10 +3,13 @@ use Rattle.std.proofs.Common.{◌≡◌, ℕ, ◌<◌, List, length, Option, Som
 use Rattle.std.proofs.lemmas.Option.{slice_get_within}
 use Rattle.hp_base.specs.Mapping.{may_fail_at}
 use Rattle.hp_base.specs.declared.map_answer.MapAnswer.{MapAnswer}
+use Rattle.hp_events.specs.Watchers.{WatchersView}
 use Rattle.hp_board.specs.Closing.{left_naming}
 use Rattle.hp_hall.specs.AgreedNames.{AreAgreedNames}
 use Rattle.hp_heap.specs.History.{HeapView}
 use Rattle.hp_maps.specs.declared.table.Table.{Table}
+use Rattle.hp_script.specs.Built.{IsBuilt}
+use Rattle.hp_script.specs.Limits.{AreDeclared}
 use Rattle.hp_script.specs.declared.answer.Answer.{Answer}
 use Rattle.hp_script.specs.declared.workload.Workload.{Workload}
 use Rattle.hp_segs.specs.SegsView.{SegsView}
@@ -16,7 +19,7 @@ use Rattle.hp_serve.specs.Party.{Party}
 use Rattle.hp_proc.specs.LinesDone.{Course}
 use Rattle.hp_proc.specs.ParticipantView.{ParticipantView}
 use Rattle.thm_run.proofs.PathSteps.Walked.{get_there}
-use Rattle.thm_run.specs.EndLaws.{FailsFor}
+use Rattle.thm_run.specs.EndLaws.{FailsFor, IsGiven}
 use Rattle.thm_run.specs.SoFar.{first_names, first_segs}
 use Rattle.thm_alike.proofs.EndAlike.{ends_alike}
 use Rattle.thm_alike.proofs.EndRestored.{courses_restore, end_tables_restore}
@@ -29,6 +32,7 @@ use Rattle.thm_together.proofs.HomeFails.{fails_once_where_home, fails_where_hom
 use Rattle.thm_together.proofs.HomeLed.{led_where_home}
 use Rattle.thm_together.specs.CameHome.{courses_in_order}
 use Rattle.thm_together.specs.Failing as home
+use Rattle.hp_threads.specs.Running.{ThreadsLeave}
 use Rattle.thm_home.proofs.AllAtBoard.{home_of_threads, names_of_threads}
 use Rattle.thm_home.specs.EndOfThreads.{CameHomeFrom, EndOfThreads, FailAsBrought, MayFailAt, MayFailSo, ThreadsEnd}
 
@@ -74,27 +78,40 @@ module _ (workload : Workload) (firsts : List ParticipantView) (answers : List A
   }
 
   all : (names : NamesView) → names ≡ first_names workload → AreAgreedNames names (left_naming heaps) segs.ranges
-      → ThreadsEnd workload firsts answers heaps segs names tables
+      → (ends : ThreadsEnd workload firsts answers heaps segs names tables) × (ends.end.courses ≡ courses_in_order workload came.home.courses)
   all names named agree =
       let ended = end_where_home workload answers heaps segs tables came.home in
-      let led = led_where_home workload answers heaps segs tables came.home in
-      record {
-        named = named;
-        names_agree = agree;
-        end = ended.0;
-        failed = subst (λ (courses : List Course). FailAsBrought firsts courses segs.asks) (sym ended.1) failed;
-        alike = ends_alike workload answers heaps segs tables ended.0;
-        pages = end_pages_alike workload answers heaps segs tables ended.0;
-        no_row = sound_logs_restore segs ended.0.segs_sound;
-        nothing_found = λ who below. nones_are_in_vain workload answers heaps segs tables ended.0 who below;
-        calls = led.0;
-        leads = led.1;
-        growths = courses_restore led.0 (first_segs workload) (first_good workload came.home.given).sound;
-        answering = end_tables_restore workload answers heaps segs tables ended.0;
-      }
+      let led = led_where_home workload answers heaps segs tables came.home in (
+        record {
+          named = named;
+          names_agree = agree;
+          end = ended.0;
+          failed = subst (λ (courses : List Course). FailAsBrought firsts courses segs.asks) (sym ended.1) failed;
+          alike = ends_alike workload answers heaps segs tables ended.0;
+          pages = end_pages_alike workload answers heaps segs tables ended.0;
+          no_row = sound_logs_restore segs ended.0.segs_sound;
+          nothing_found = λ who below. nones_are_in_vain workload answers heaps segs tables ended.0 who below;
+          calls = led.0;
+          leads = led.1;
+          growths = courses_restore led.0 (first_segs workload) (first_good workload came.home.given).sound;
+          answering = end_tables_restore workload answers heaps segs tables ended.0;
+        },
+        ended.1,
+      )
 
-pub end_of_threads : EndOfThreads
-end_of_threads workload firsts answers heaps segs names tables watchers given built declared leave =
+-- of the lines with which all came home
+pub ended_where_home : (workload : Workload) (firsts : List ParticipantView) (answers : List Answer) (heaps : List HeapView) (segs : SegsView)
+    (names : NamesView) (tables : List Table) (watchers : List WatchersView) (given : IsGiven workload) (built : IsBuilt workload)
+    (declared : AreDeclared workload.participants workload.lines.items)
+    (leave : ThreadsLeave workload firsts answers heaps segs names tables watchers)
+    → (ends : ThreadsEnd workload firsts answers heaps segs names tables)
+    × (ends.end.courses ≡ courses_in_order workload
+    (home_of_threads workload firsts answers heaps segs names tables watchers given built declared leave).home.courses)
+ended_where_home workload firsts answers heaps segs names tables watchers given built declared leave =
     all workload firsts answers heaps segs tables
     (home_of_threads workload firsts answers heaps segs names tables watchers given built declared leave) leave.promised.begun names
     (names_of_threads workload firsts answers heaps segs names tables watchers given built declared leave) leave.names_are.agreed
+
+pub end_of_threads : EndOfThreads
+end_of_threads workload firsts answers heaps segs names tables watchers given built declared leave =
+    (ended_where_home workload firsts answers heaps segs names tables watchers given built declared leave).0
