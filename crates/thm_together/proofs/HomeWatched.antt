@@ -138,7 +138,7 @@ module _ (workload : Workload) (answers : List Answer) (heaps : List HeapView) (
     never : (ask : Ask) → None ≡ Some ask → ⊥
     never ask same = cc
 
-    so_far : IsSoFar log_is_placed workload workload.participants who segs (omega (arith, below, home.given.few)) opening [] new (home.courses who)
+    so_far : IsSoFar who segs opening [] new (home.courses who)
     so_far =
         let its = its_holds workload answers heaps segs tables home who below in
         let counts = counted workload answers heaps segs tables home who new late in

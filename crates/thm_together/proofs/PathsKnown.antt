@@ -14,7 +14,6 @@ use Rattle.hp_serve.specs.Attaching.{Attaches}
 use Rattle.hp_serve.specs.Party.{Party}
 use Rattle.hp_serve.specs.Serving.{gives_segments}
 use Rattle.hp_proc.specs.Courses.{standing_tried}
-use Rattle.hp_proc.specs.Doing.{Done}
 use Rattle.hp_weave.specs.Holds.{Hold}
 use Rattle.thm_run.proofs.InTurnByHolds.HoldsLeft.{AreLeft, one_left}
 use Rattle.thm_run.proofs.InTurnByHolds.NextHolds.{to_last}
@@ -23,7 +22,7 @@ use Rattle.thm_run.proofs.SeatFacts.LogAlong.{HasRecords, records_then, same_rec
 use Rattle.thm_run.proofs.Watched.{handles_watched, mails_watched, quietly_watched, watched_on}
 use Rattle.thm_run.specs.Apart.{holds_from}
 use Rattle.thm_run.specs.OwnHolds.{HasLater}
-use Rattle.thm_run.specs.Seats.{Handles, Mails, Quietly, Seat, SeatTrace, having_done, leaving}
+use Rattle.thm_run.specs.Seats.{Handles, Mails, Quietly, Seat, SeatTrace}
 use Rattle.thm_run.specs.Watching.{IsWatched}
 use Rattle.thm_together.proofs.HomeSince.{IsSince, handles_since, mails_since, quietly_since, since_more}
 
@@ -147,15 +146,15 @@ was_in : (was : Bool) → (was || false) ≡ true → was ≡ true
 was_in true is = refl
 was_in false is = is
 
--- it caught up with a log, or failed to
-caught_reaches : (log : List LogRecord) (old new : Seat) (ended : Caught) → new.party.joined ≡ (old.party.joined || is_done ended)
-    → new.party.maps.number ≡ number_after old.party.maps.number (length log) ended → ReachesOn (length log) old new
-caught_reaches log old new caught.Done joined number_is number few was on = omega (arith, number_is, few)
-caught_reaches log old new (caught.Refused row call) joined number_is number few was on =
-    let its = was (was_in old.party.joined (sym joined ∙ on)) in
+-- it caught up with so many records, or failed to
+caught_reaches : (records : ℕ) (joined : Bool) (before after : ℕ) (ended : Caught) → after ≡ number_after before records ended
+    → (number : ℕ) → number ≤ records → (joined ≡ true → number ≤ before) → (joined || is_done ended) ≡ true → number ≤ after
+caught_reaches records joined before after caught.Done number_is number few was on = omega (arith, number_is, few)
+caught_reaches records joined before after (caught.Refused row call) number_is number few was on =
+    let its = was (was_in joined on) in
     omega (arith, number_is, its)
-caught_reaches log old new (caught.Elsewhere row call got) joined number_is number few was on =
-    let its = was (was_in old.party.joined (sym joined ∙ on)) in
+caught_reaches records joined before after (caught.Elsewhere row call got) number_is number few was on =
+    let its = was (was_in joined on) in
     omega (arith, number_is, its)
 
 -- it attached, or tried to
@@ -164,26 +163,25 @@ not_in seat out is attached =
     let wrong : true ≡ false = sym (is attached) ∙ out in
     cc
 
-tried_in : (log : List LogRecord) (old : Seat) (after : Party) (ended : Caught) → Attaches old.party after log ended → (more : List Done)
-    → IsIn old → IsIn (leaving (standing_tried (length log) ended old.standing) (having_done after more old))
-tried_in log old after caught.Done tried more is attached = ap (λ (party : Party). party.joined) tried.after_is
-tried_in log old after (caught.Refused row call) tried more is attached = absurd (not_in old tried.out is attached)
-tried_in log old after (caught.Elsewhere row call got) tried more is attached = absurd (not_in old tried.out is attached)
+tried_in : (log : List LogRecord) (old : Seat) (after : Party) (ended : Caught) → Attaches old.party after log ended → IsIn old
+    → (standing_tried (length log) ended old.standing).attached ≡ true → after.joined ≡ true
+tried_in log old after caught.Done tried is attached = ap (λ (party : Party). party.joined) tried.after_is
+tried_in log old after (caught.Refused row call) tried is attached = absurd (not_in old tried.out is attached)
+tried_in log old after (caught.Elsewhere row call got) tried is attached = absurd (not_in old tried.out is attached)
 
 left_out : (after : Party) → after.joined ≡ true → after.joined ≡ false → ⊥
 left_out after on out =
     let wrong : true ≡ false = sym on ∙ out in
     cc
 
-tried_reaches : (log : List LogRecord) (old : Seat) (after : Party) (ended : Caught) → Attaches old.party after log ended
-    → (more : List Done)
-    → ReachesOn (length log) old (leaving (standing_tried (length log) ended old.standing) (having_done after more old))
-tried_reaches log old after caught.Done tried more number few was on =
+tried_reaches : (log : List LogRecord) (party after : Party) (ended : Caught) → Attaches party after log ended → (number : ℕ)
+    → number ≤ length log → after.joined ≡ true → number ≤ after.maps.number
+tried_reaches log party after caught.Done tried number few on =
     let number_is : after.maps.number ≡ length log = ap (λ (party : Party). party.maps.number) tried.after_is ∙ tried.caught_up.number in
     omega (arith, number_is, few)
-tried_reaches log old after (caught.Refused row call) tried more number few was on =
+tried_reaches log party after (caught.Refused row call) tried number few on =
     absurd (left_out after on (ap (λ (party : Party). party.joined) tried.after_is))
-tried_reaches log old after (caught.Elsewhere row call got) tried more number few was on =
+tried_reaches log party after (caught.Elsewhere row call got) tried number few on =
     absurd (left_out after on (ap (λ (party : Party). party.joined) tried.after_is))
 
 handles_in : {count who : ℕ} {old new : Seat} {taken given : SegsView} → Handles count who old new taken given → IsIn old → IsIn new
@@ -196,20 +194,23 @@ handles_in (Handles.arms seat segs asked run number its) is = is
 handles_in (Handles.claims seat segs) is = is
 handles_in (Handles.settles seat segs since now late) is = is
 handles_in (Handles.cuts seat segs heap addr run) is = is
-handles_in (Handles.attaches seat segs ended after tried) is = tried_in segs.log seat after ended tried _ is
+handles_in (Handles.attaches seat segs ended after tried) is attached = tried_in segs.log seat after ended tried is attached
 handles_in (Handles.detaches seat segs told secondary heard) is attached = absurd cc
 
 handles_reach : {count who : ℕ} {old new : Seat} {taken given : SegsView} → Handles count who old new taken given
     → ReachesOn (length taken.log) old new
 handles_reach (Handles.looks seat segs) number few was joined = was joined
 handles_reach (Handles.steps seat segs event core its zero knows denied may) number few was joined = was joined
-handles_reach (Handles.maps seat segs ended table now core its zero caught_up) = caught_reaches segs.log seat _ ended refl caught_up.number
-handles_reach (Handles.follows seat segs ended table member caught_up) = caught_reaches segs.log seat _ ended refl caught_up.number
+handles_reach (Handles.maps seat segs ended table now core its zero caught_up) number few was joined =
+    caught_reaches (length segs.log) seat.party.joined seat.party.maps.number table.number ended caught_up.number number few was joined
+handles_reach (Handles.follows seat segs ended table member caught_up) number few was joined =
+    caught_reaches (length segs.log) seat.party.joined seat.party.maps.number table.number ended caught_up.number number few was joined
 handles_reach (Handles.arms seat segs asked run next its) number few was joined = was joined
 handles_reach (Handles.claims seat segs) number few was joined = was joined
 handles_reach (Handles.settles seat segs since now late) number few was joined = was joined
 handles_reach (Handles.cuts seat segs heap addr run) number few was joined = was joined
-handles_reach (Handles.attaches seat segs ended after tried) = tried_reaches segs.log seat after ended tried _
+handles_reach (Handles.attaches seat segs ended after tried) number few was joined =
+    tried_reaches segs.log seat.party after ended tried number few joined
 handles_reach (Handles.detaches seat segs told secondary heard) number few was joined = absurd cc
 
 -- A PATH

@@ -110,8 +110,7 @@ module _ (workload : Workload) (count who : ℕ) (opening : LinesLeft) (last : S
 
 -- A WAY
 
-module _ (log_is_placed : LogIsPlaced) (workload : Workload) (count who : ℕ) (last : SegsView) (few : who < MAX_PARTICIPANTS)
-    (opening : LinesLeft) where
+module _ (who : ℕ) (last : SegsView) (opening : LinesLeft) where
   abbrev AreAt : List LogRecord → Seat → List Course → List Listener → Type 0
   AreAt log seat courses listeners =
       All (λ (listener : Listener). IsRegisteredAt who opening last log seat courses listener.name listener.since) listeners
@@ -127,10 +126,12 @@ module _ (log_is_placed : LogIsPlaced) (workload : Workload) (count who : ℕ) (
     pub standing : seat.standing ≡ standing_after opening.standing courses
     pub registered : AreAt log seat courses seat.party.listeners
 
+module _ (log_is_placed : LogIsPlaced) (workload : Workload) (count who : ℕ) (last : SegsView) (few : who < MAX_PARTICIPANTS)
+    (opening : LinesLeft) where
   -- beside its lines
   beside_registered : (others : List (Hold SegsView)) (log : List LogRecord) (old new : Seat) (courses : List Course)
-      → HearsOn old.party new.party → (on : IsKnownOn others last.log log old new) → AreAt log old courses old.party.listeners
-      → AreAt on.log new courses new.party.listeners
+      → HearsOn old.party new.party → (on : IsKnownOn others last.log log old new) → AreAt who last opening log old courses old.party.listeners
+      → AreAt who last opening on.log new courses new.party.listeners
   beside_registered others log old new courses heard on all =
       All-weaker (λ (listener : Listener). IsRegisteredAt who opening last log old courses listener.name listener.since)
       (λ (listener : Listener). IsRegisteredAt who opening last on.log new courses listener.name listener.since)
@@ -146,18 +147,18 @@ module _ (log_is_placed : LogIsPlaced) (workload : Workload) (count who : ℕ) (
       → IsLineKnown workload count who opening on.log old new courses course steps
       → ((place : ℕ) → IsAskAt (numbered_in course.trace) place
       → IsAskedAbove who last (length log) (1 + length (numbered_in (trace_of courses)) + place))
-      → AreAt log old courses old.party.listeners → AreAt on.log new (courses ++ course ∷ []) new.party.listeners
+      → AreAt who last opening log old courses old.party.listeners → AreAt who last opening on.log new (courses ++ course ∷ []) new.party.listeners
   line_registered others log old new courses course steps on line asks all =
       let mid : Party = line.is.mid.party in
       let heard : HearsOn line.is.doer.party mid = acts_hears line.is.acts in
-      subst (AreAt on.log new (courses ++ course ∷ [])) (sym (ap (λ (party : Party). party.listeners) line.is.ends))
+      subst (AreAt who last opening on.log new (courses ++ course ∷ [])) (sym (ap (λ (party : Party). party.listeners) line.is.ends))
       (line_ends (λ (text : List ℕ) (rows : List Row). IsRegisteredAt who opening last log old courses text rows)
       (λ (text : List ℕ) (rows : List Row). IsRegisteredAt who opening last on.log new (courses ++ course ∷ []) text rows) course
       (stays_on who opening last log on.log old new courses on.has on.reaches course asks) course.line.act course.answer mid.maps.rows
       mid.listeners refl refl
       (heard_all (λ (text : List ℕ) (rows : List Row). IsRegisteredAt who opening last log old courses text rows)
       line.is.doer.party.listeners mid.listeners heard.names heard.since
-      (subst (λ (party : Party). AreAt log old courses party.listeners) line.is.begins all))
+      (subst (λ (party : Party). AreAt who last opening log old courses party.listeners) line.is.begins all))
       (newest workload count who opening last on.log old new courses course steps line))
 
   no_more_lines : (old new : List EndedLine) → new ≡ old → length new ≤ length old
@@ -171,7 +172,7 @@ module _ (log_is_placed : LogIsPlaced) (workload : Workload) (count who : ℕ) (
       → now.party.asked ≤ length (numbered_in (trace_of courses)) → AreAnsweredFrom last.log last.asks who 1 (trace_of courses)
       → AreDone workload opening.standing courses → (more : List MailStep) → NoneElseGrowsAlong who None (steps ++ more)
       → (others : List (Hold SegsView)) (from : SegsView) → AreLeft who last (holds_from who None steps ++ others) from
-      → IsAnswered who from → AreLonger begin (holds_from who None steps ++ others) last.log → IsSoFar others now courses
+      → IsAnswered who from → AreLonger begin (holds_from who None steps ++ others) last.log → IsSoFar who last opening others now courses
   way_registered (WentByLines.begins seat) begin opens unwatched known exact answers done more along others from left was longer = record {
     to = from;
     left = left;
@@ -180,7 +181,7 @@ module _ (log_is_placed : LogIsPlaced) (workload : Workload) (count who : ℕ) (
     longer = longer;
     known = known;
     standing = opens;
-    registered = subst (AreAt begin seat []) (sym unwatched)
+    registered = subst (AreAt who last opening begin seat []) (sym unwatched)
         (All-nil (λ (listener : Listener). IsRegisteredAt who opening last begin seat [] listener.name listener.since));
   }
   way_registered (WentByLines.beside first old new courses before steps went path same stays none) begin opens unwatched known exact answers
