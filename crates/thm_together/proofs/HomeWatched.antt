@@ -22,7 +22,7 @@ use Rattle.hp_proc.specs.Outcomes.{IsOfATrace, IsOfAnAskOfATrace}
 use Rattle.hp_proc.specs.WatchedBytes.{AreWatchersOf, HasLaterGrant, IsRegistered}
 use Rattle.hp_script.specs.declared.answer.Answer.{Answer}
 use Rattle.hp_script.specs.declared.workload.Workload.{Workload}
-use Rattle.hp_segs.proofs.LogPlaceLemmas.{log_is_placed}
+use Rattle.hp_segs.specs.LogPlaces.{LogIsPlaced}
 use Rattle.hp_segs.specs.SegsView.{SegsView, granted_by, is_grant_or_refusal}
 use Rattle.hp_segs.specs.declared.ask.Ask.{Ask}
 use Rattle.hp_segs.specs.declared.outcome.AskLog.{AskLog}
@@ -59,6 +59,7 @@ first_known : (workload : Workload) (who : ℕ) (log : List LogRecord) (asks : L
 first_known workload who log asks first last courses steps below few went =
     let its = went.begins in
     let begin : List LogRecord = (first_segs workload).log in
+    let none : first.standing.records ≡ 0 = ap (λ (standing : Standing). standing.records) went.opens in
     record {
       watched = record {
         names = ap names_of its.listeners ∙ sym its.watchers;
@@ -71,8 +72,8 @@ first_known workload who log asks first last courses steps below few went =
         know = subst (AllKnow first.party.maps.rows) (sym its.listeners) (All-nil (Knows first.party.maps.rows));
       };
       since = record {
-        taken = λ joined. omega (arith, ap (λ (standing : Standing). standing.records) went.opens);
-        within = omega (arith, ap (λ (standing : Standing). standing.records) went.opens);
+        taken = λ joined. omega (arith, none);
+        within = omega (arith, none);
       };
       is_in = λ attached.
           its.joined
@@ -113,7 +114,7 @@ module _ (workload : Workload) (answers : List Answer) (heaps : List HeapView) (
         All-weaker (Contains segs.asks) (HasLaterGrant who made is.seen)
         (λ entry among from above. later_by entry among from above entry.outcome refl) segs.asks (All-contains_itself segs.asks)
 
-  module _ (who : ℕ) (below : who < workload.participants) (old new : Seat) (early : slice_get home.first who ≡ Some old)
+  module _ (log_is_placed : LogIsPlaced) (who : ℕ) (below : who < workload.participants) (old new : Seat) (early : slice_get home.first who ≡ Some old)
       (late : slice_get home.last who ≡ Some new) (table : Table) (at : slice_get tables who ≡ Some table) where
     abbrev went : WentItsWay workload who segs.log segs.asks old new (home.courses who) (home.steps who)
     went = home.went who old new early late
@@ -193,8 +194,8 @@ module _ (workload : Workload) (answers : List Answer) (heaps : List HeapView) (
           new.party.listeners) (sym leaves.rows) so_far.known.watched.know;
     }
 
-pub watched_where_home : WatchedWhereHome
-watched_where_home workload answers heaps segs tables home watchers told = record {
+pub watched_where_home : LogIsPlaced → WatchedWhereHome
+watched_where_home log_is_placed workload answers heaps segs tables home watchers told = record {
   count = told.many ∙ (home.count ∙ home.begun);
   each = λ who table listeners at heard.
       let within = slice_get_within watchers who listeners heard in
@@ -205,5 +206,5 @@ watched_where_home workload answers heaps segs tables home watchers told = recor
       (sym ((are_woven workload answers heaps segs tables home).own who))
       (subst (AreWatchersOf who (opening_left workload who) segs (home.courses who) table)
       (sym (told.are who late.seat listeners late.there heard))
-      (its_watchers workload answers heaps segs tables home who below early.seat late.seat early.there late.there table at));
+      (its_watchers workload answers heaps segs tables home log_is_placed who below early.seat late.seat early.there late.there table at));
 }

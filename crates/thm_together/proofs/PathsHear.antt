@@ -1,5 +1,5 @@
 -- Along a path on which no line ends watchers keep their names and their first tables.
-use Rattle.std.proofs.Common.{◌≡◌, ◌∙◌, ℕ, ◌≤◌, List, [], ◌∷◌, ◌++◌, length, length-append, map, refl, ap, sym, subst, arith}
+use Rattle.std.proofs.Common.{◌≡◌, ◌∙◌, ℕ, ◌+◌, ◌≤◌, List, [], ◌∷◌, ◌++◌, length, length-append, map, refl, ap, sym, subst, arith}
 use Rattle.hp_base.specs.Telling.{Listener}
 use Rattle.hp_base.specs.declared.event.EventKind.TheVariants as kind
 use Rattle.hp_hall.specs.Mail.{MailStep}

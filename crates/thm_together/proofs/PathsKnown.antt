@@ -42,7 +42,7 @@ records_longer old new has = omega (arith, ap length has.is, length-append old h
 longer_lower : (low log : List LogRecord) (holds : List (Hold SegsView)) (last : List LogRecord) → HasRecords low log
     → AreLonger log holds last → AreLonger low holds last
 longer_lower low log [] last has longer = records_then low log last has longer
-longer_lower low log (hold ∷ holds) last has longer = (records_then low log hold.taken.log has longer.0, (longer.1, longer.2))
+longer_lower low log (hold ∷ holds) last has longer = (records_then low log hold.taken.log has longer.0, longer.1, longer.2)
 
 -- the last log goes on from each
 pub longer_last : (log : List LogRecord) (holds : List (Hold SegsView)) (last : List LogRecord) → AreLonger log holds last
@@ -71,11 +71,9 @@ longer_left who last [] from left = later_records from last (to_last who last fr
 longer_left who last (hold ∷ holds) from left =
     let one = one_left who last from hold holds left in (
       later_records from hold.taken one.before,
-      (
-        one.good.sound,
-        longer_lower hold.taken.log hold.given.log holds last.log (later_records hold.taken hold.given one.goes.later)
-            (longer_left who last holds hold.given one.left),
-      ),
+      one.good.sound,
+      longer_lower hold.taken.log hold.given.log holds last.log (later_records hold.taken hold.given one.goes.later)
+          (longer_left who last holds hold.given one.left),
     )
 
 -- WHAT IS KNOWN ALONG A PATH
@@ -185,15 +183,15 @@ tried_reaches log party after (caught.Elsewhere row call got) tried number few o
     absurd (left_out after on (ap (λ (party : Party). party.joined) tried.after_is))
 
 handles_in : {count who : ℕ} {old new : Seat} {taken given : SegsView} → Handles count who old new taken given → IsIn old → IsIn new
-handles_in (Handles.looks seat segs) is = is
-handles_in (Handles.steps seat segs event core its zero knows denied may) is = is
+handles_in (Handles.looks seat segs) is attached = is attached
+handles_in (Handles.steps seat segs event core its zero knows denied may) is attached = is attached
 handles_in (Handles.maps seat segs ended table now core its zero caught_up) is attached =
     in_still seat.party.joined (is_done ended) (is attached)
 handles_in (Handles.follows seat segs ended table member caught_up) is attached = in_still seat.party.joined (is_done ended) (is attached)
-handles_in (Handles.arms seat segs asked run number its) is = is
-handles_in (Handles.claims seat segs) is = is
-handles_in (Handles.settles seat segs since now late) is = is
-handles_in (Handles.cuts seat segs heap addr run) is = is
+handles_in (Handles.arms seat segs asked run number its) is attached = is attached
+handles_in (Handles.claims seat segs) is attached = is attached
+handles_in (Handles.settles seat segs since now late) is attached = is attached
+handles_in (Handles.cuts seat segs heap addr run) is attached = is attached
 handles_in (Handles.attaches seat segs ended after tried) is attached = tried_in segs.log seat after ended tried is attached
 handles_in (Handles.detaches seat segs told secondary heard) is attached = absurd cc
 

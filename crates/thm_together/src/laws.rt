@@ -4,6 +4,8 @@ ghost use Rattle.thm_together.specs.Failing.{FailsOnceWhereHome, FailsWhereHome,
 ghost use Rattle.thm_together.specs.OnItsWay.{BeginsItsWay, DoesALineOnItsWay, ServesOnItsWay};
 ghost use Rattle.thm_together.specs.Watched.{WatchedWhereHome};
 
+use hp_segs::log_law;
+
 /// A participant on a thread of its own goes its way by its lines: from its first seat on, where it serves, and where it does a line and then
 /// tells that it is done. Own.
 pub fn going_law()
@@ -32,4 +34,6 @@ pub fn failing_law()
 /// Own.
 pub fn watching_law()
     ensures { WatchedWhereHome }
-{}
+{
+    log_law();
+}
