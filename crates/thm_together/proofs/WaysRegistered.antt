@@ -8,13 +8,12 @@ use Rattle.hp_base.specs.declared.row.Row.{Row}
 use Rattle.hp_hall.specs.Mail.{MailStep}
 use Rattle.hp_log.specs.declared.log_record.LogRecord.{LogRecord}
 use Rattle.hp_maps.specs.Catching.{Lags}
-use Rattle.hp_maps.specs.MapsView.{MapsView, table_in}
+use Rattle.hp_maps.specs.MapsView.{table_in}
 use Rattle.hp_proc.specs.Courses.{Standing, after_line, attached_after, numbered_in, records_after}
 use Rattle.hp_proc.specs.Doing.{Doing, Leads}
 use Rattle.hp_proc.specs.Lines.{doing_of}
 use Rattle.hp_proc.specs.LinesDone.{AreDone, Course, IsDone, standing_after, trace_of}
 use Rattle.hp_proc.specs.LinesLeft.{LinesLeft, left_by}
-use Rattle.hp_proc.specs.WatchedBytes.{IsUnwatch}
 use Rattle.hp_script.specs.Part.{Part}
 use Rattle.hp_script.specs.declared.answer.Answer.{Answer}
 use Rattle.hp_script.specs.declared.answer.Answer.TheVariants as answer
