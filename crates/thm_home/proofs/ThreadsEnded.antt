@@ -78,40 +78,40 @@ module _ (workload : Workload) (firsts : List ParticipantView) (answers : List A
   }
 
   all : (names : NamesView) → names ≡ first_names workload → AreAgreedNames names (left_naming heaps) segs.ranges
-      → (ends : ThreadsEnd workload firsts answers heaps segs names tables) × (ends.end.courses ≡ courses_in_order workload came.home.courses)
+      → ThreadsEnd workload firsts answers heaps segs names tables
   all names named agree =
       let ended = end_where_home workload answers heaps segs tables came.home in
-      let led = led_where_home workload answers heaps segs tables came.home in (
-        record {
-          named = named;
-          names_agree = agree;
-          end = ended.0;
-          failed = subst (λ (courses : List Course). FailAsBrought firsts courses segs.asks) (sym ended.1) failed;
-          alike = ends_alike workload answers heaps segs tables ended.0;
-          pages = end_pages_alike workload answers heaps segs tables ended.0;
-          no_row = sound_logs_restore segs ended.0.segs_sound;
-          nothing_found = λ who below. nones_are_in_vain workload answers heaps segs tables ended.0 who below;
-          calls = led.0;
-          leads = led.1;
-          growths = courses_restore led.0 (first_segs workload) (first_good workload came.home.given).sound;
-          answering = end_tables_restore workload answers heaps segs tables ended.0;
-        },
-        ended.1,
-      )
+      let led = led_where_home workload answers heaps segs tables came.home in
+      record {
+        named = named;
+        names_agree = agree;
+        end = ended.0;
+        failed = subst (λ (courses : List Course). FailAsBrought firsts courses segs.asks) (sym ended.1) failed;
+        alike = ends_alike workload answers heaps segs tables ended.0;
+        pages = end_pages_alike workload answers heaps segs tables ended.0;
+        no_row = sound_logs_restore segs ended.0.segs_sound;
+        nothing_found = λ who below. nones_are_in_vain workload answers heaps segs tables ended.0 who below;
+        calls = led.0;
+        leads = led.1;
+        growths = courses_restore led.0 (first_segs workload) (first_good workload came.home.given).sound;
+        answering = end_tables_restore workload answers heaps segs tables ended.0;
+      }
 
--- of the lines with which all came home
-pub ended_where_home : (workload : Workload) (firsts : List ParticipantView) (answers : List Answer) (heaps : List HeapView) (segs : SegsView)
-    (names : NamesView) (tables : List Table) (watchers : List WatchersView) (given : IsGiven workload) (built : IsBuilt workload)
-    (declared : AreDeclared workload.participants workload.lines.items)
-    (leave : ThreadsLeave workload firsts answers heaps segs names tables watchers)
-    → (ends : ThreadsEnd workload firsts answers heaps segs names tables)
-    × (ends.end.courses ≡ courses_in_order workload
-    (home_of_threads workload firsts answers heaps segs names tables watchers given built declared leave).home.courses)
-ended_where_home workload firsts answers heaps segs names tables watchers given built declared leave =
+pub end_of_threads : EndOfThreads
+end_of_threads workload firsts answers heaps segs names tables watchers given built declared leave =
     all workload firsts answers heaps segs tables
     (home_of_threads workload firsts answers heaps segs names tables watchers given built declared leave) leave.promised.begun names
     (names_of_threads workload firsts answers heaps segs names tables watchers given built declared leave) leave.names_are.agreed
 
-pub end_of_threads : EndOfThreads
-end_of_threads workload firsts answers heaps segs names tables watchers given built declared leave =
-    (ended_where_home workload firsts answers heaps segs names tables watchers given built declared leave).0
+-- its lines are those with which all came home
+pub courses_at_end : (workload : Workload) (firsts : List ParticipantView) (answers : List Answer) (heaps : List HeapView) (segs : SegsView)
+    (names : NamesView) (tables : List Table) (watchers : List WatchersView) (given : IsGiven workload) (built : IsBuilt workload)
+    (declared : AreDeclared workload.participants workload.lines.items)
+    (leave : ThreadsLeave workload firsts answers heaps segs names tables watchers)
+    → (end_of_threads workload firsts answers heaps segs names tables watchers given built declared leave).end.courses
+    ≡ courses_in_order workload
+    (home_of_threads workload firsts answers heaps segs names tables watchers given built declared leave).home.courses
+unfolding end_of_threads all
+courses_at_end workload firsts answers heaps segs names tables watchers given built declared leave =
+    (end_where_home workload answers heaps segs tables
+    (home_of_threads workload firsts answers heaps segs names tables watchers given built declared leave).home).1

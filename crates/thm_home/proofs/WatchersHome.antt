@@ -16,7 +16,7 @@ use Rattle.thm_run.specs.EndLaws.{IsGiven}
 use Rattle.thm_run.specs.Handing.{HaveWatchers, listeners_in}
 use Rattle.thm_together.specs.Watched.{WatchedWhereHome}
 use Rattle.thm_home.proofs.AllAtBoard.{home_of_threads, watched_in_seats}
-use Rattle.thm_home.proofs.ThreadsEnded.{ended_where_home}
+use Rattle.thm_home.proofs.ThreadsEnded.{courses_at_end, end_of_threads}
 
 -- wherever threads leave something, so it is at their end
 pub watchers_of_threads : WatchedWhereHome → (workload : Workload) (firsts : List ParticipantView) (answers : List Answer) (heaps : List HeapView)
@@ -24,11 +24,11 @@ pub watchers_of_threads : WatchedWhereHome → (workload : Workload) (firsts : L
     (built : IsBuilt workload) (declared : AreDeclared workload.participants workload.lines.items)
     (leave : ThreadsLeave workload firsts answers heaps segs names tables watchers)
     → HaveWatchers workload
-    (ended_where_home workload firsts answers heaps segs names tables watchers given built declared leave).0.end.courses segs tables
+    (end_of_threads workload firsts answers heaps segs names tables watchers given built declared leave).end.courses segs tables
     (listeners_in watchers)
 watchers_of_threads law workload firsts answers heaps segs names tables watchers given built declared leave =
-    let came = home_of_threads workload firsts answers heaps segs names tables watchers given built declared leave in
-    let ended = ended_where_home workload firsts answers heaps segs names tables watchers given built declared leave in
-    subst (λ (courses : List Course). HaveWatchers workload courses segs tables (listeners_in watchers)) (sym ended.1)
-    (law workload answers heaps segs tables came.home (listeners_in watchers)
+    subst (λ (courses : List Course). HaveWatchers workload courses segs tables (listeners_in watchers))
+    (sym (courses_at_end workload firsts answers heaps segs names tables watchers given built declared leave))
+    (law workload answers heaps segs tables
+    (home_of_threads workload firsts answers heaps segs names tables watchers given built declared leave).home (listeners_in watchers)
     (watched_in_seats workload firsts answers heaps segs names tables watchers given built declared leave))
