@@ -3,3 +3,4 @@ pub mod ThreadsEnded
 pub mod ThreadsHome
 pub mod ThreadsMail
 pub mod WaysOfWorks
+pub mod WatchersHome
