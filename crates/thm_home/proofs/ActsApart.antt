@@ -29,7 +29,7 @@ pub record ActsApart (index : ℕ) (fin : Option ℕ) (trace : List Done) (steps
 no_call : (who index number : ℕ) (call : OwnCall) → call.heap ≢ index → entries_for who index number (call ∷ []) ≡ []
 no_call who index number call apart = cond-false (call.heap == index) (entry_for who number call ∷ []) [] (ne_eqb call.heap index apart)
 
-none_of : (index : ℕ) → None ≢ Some index
+pub none_of : (index : ℕ) → None ≢ Some index
 none_of index same = cc
 
 both_none : (one other : ℕ) → one + other ≡ 0 → (one ≡ 0) × (other ≡ 0)
