@@ -1,6 +1,15 @@
+pub mod ActsApart
+pub mod ActsSplit
 pub mod AllAtBoard
+pub mod BesideHeap
+pub mod GivenFronts
+pub mod ReadPlaces
+pub mod StatsAtBoard
+pub mod StatsHanded
 pub mod ThreadsEnded
 pub mod ThreadsHome
 pub mod ThreadsMail
-pub mod WaysOfWorks
+pub mod ThreadsStats
 pub mod WatchersHome
+pub mod WayReads
+pub mod WaysOfWorks
