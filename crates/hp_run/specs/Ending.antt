@@ -13,7 +13,9 @@ use Rattle.hp_segs.specs.Moved.{Leads, SegsCall}
 use Rattle.hp_segs.specs.SegsView.{SegsView, is_retiring}
 use Rattle.hp_segs.specs.Sound.{IsSound}
 use Rattle.hp_proc.specs.Ends.{IsEnd, IsSoloEnd, OneThreadLeaves}
-use Rattle.hp_proc.specs.LinesDone.{courses_of}
+use Rattle.hp_proc.specs.Handed.{AreNamesHanded, names_shown}
+use Rattle.hp_proc.specs.LinesDone.{courses_of, trace_of}
+use Rattle.hp_proc.specs.SharedNames.{no_changes}
 use Rattle.thm_run.specs.Drops.{DropsComeFirst}
 use Rattle.thm_run.specs.Freed.{AreShown}
 use Rattle.thm_run.specs.Handing.{AreJudged, AreOfLinesBefore, HaveStatistics, HaveWatchers, WatchersHaveGrants}
@@ -86,15 +88,16 @@ pub record HasRestored (workload : Workload) (segs : SegsView) (tables : List Ta
   pub growths : GrowthsRestore calls (first_segs workload)
   pub answering : TablesRestore segs.log tables
 
--- what a run has come to, in whatever order its participants' steps came: an end of the workload. Each participant has its watchers, each
--- told of its table; and each statistics that a line was answered are those of a front of the heap's history, with its own calls. A mapping
--- failed, for a growth or for a line that attaches, only where the plan or the mapper is why, and at no call twice; all who are attached
--- map what is in use alike, and a growth that failed left no row. An allocation that is answered that there is no memory found no address
--- in its heaps and was granted nothing (that it tried all of them, and all page sizes, is in what its line does); and a growth that failed
--- left all else as the other calls meanwhile would have left it
+-- what a run has come to, in whatever order its participants' steps came: an end of the workload. All names that lines read are those of the
+-- beginning, which no line that is built changes. Each participant has its watchers, each told of its table; and each statistics that a line
+-- was answered are those of a front of the heap's history, with its own calls. A mapping failed, for a growth or for a line that attaches, only
+-- where the plan or the mapper is why, and at no call twice; all who are attached map what is in use alike, and a growth that failed left no
+-- row. An allocation that is answered that there is no memory found no address in its heaps and was granted nothing (that it tried all of them,
+-- and all page sizes, is in what its line does); and a growth that failed left all else as the other calls meanwhile would have left it
 pub record IsRunEnd (workload : Workload) (mappers : List (Option (List FailingCall))) (answers : List Answer) (heaps : List HeapView)
     (segs : SegsView) (tables : List Table) (watchers : List (List Listener)) : Type 0 where
   pub end : IsEnd workload answers heaps segs tables
+  pub handed_names : (who : ℕ) → AreNamesHanded no_changes (names_shown no_changes (trace_of (courses_of who end.courses)))
   pub watched : HaveWatchers workload end.courses segs tables watchers
   pub statistics : HaveStatistics end.courses heaps
   pub named : AreNamed workload mappers answers segs

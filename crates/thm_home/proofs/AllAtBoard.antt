@@ -1,5 +1,6 @@
 -- Where threads leave something all came home.
 use Rattle.std.proofs.Common.{◌≡◌, ◌∙◌, ◌⊎◌, ℕ, zero, suc, ◌<◌, ◌≤◌, List, [], ◌∷◌, length, map, Some, inl, inr, slice_get, refl, ap, sym, subst, arith}
+use Rattle.std.specs.List.{All}
 use Rattle.std.specs.Option.{option_map}
 use Rattle.std.specs.Prelude.{Contains, slice_index_or}
 use Rattle.std.proofs.lemmas.Bool.{cases_lt}
@@ -20,8 +21,11 @@ use Rattle.hp_script.specs.declared.workload.Workload.{Workload}
 use Rattle.hp_segs.specs.SegsView.{SegsView}
 use Rattle.hp_serve.specs.Party.{Party}
 use Rattle.hp_zone.specs.declared.names.Names.{Names as NamesView}
-use Rattle.hp_proc.specs.LinesDone.{Course}
+use Rattle.hp_proc.specs.Handed.{AreNamesHanded, names_shown}
+use Rattle.hp_proc.specs.Handing.{shared_of}
+use Rattle.hp_proc.specs.LinesDone.{Course, trace_of}
 use Rattle.hp_proc.specs.ParticipantView.{ParticipantView}
+use Rattle.hp_proc.specs.SharedNames.{no_changes}
 use Rattle.hp_weave.specs.Weaving.{woven}
 use Rattle.thm_run.proofs.PathSteps.Walked.{get_there}
 use Rattle.thm_run.specs.EndLaws.{IsGiven}
@@ -30,7 +34,9 @@ use Rattle.thm_run.specs.Seats.{Seat}
 use Rattle.thm_run.specs.SoFar.{first_names}
 use Rattle.hp_threads.specs.Running.{HasPromised, ThreadsLeave, answers_of}
 use Rattle.thm_together.specs.Watched.{AreToldInSeats}
-use Rattle.thm_moved.proofs.HomeAtBoard.{home_at_board, names_stay_at_board}
+use Rattle.thm_moved.proofs.HomeAtBoard.{home_at_board}
+use Rattle.thm_moved.proofs.NamesAtBoard.{names_read_at_board, names_stay_at_board}
+use Rattle.thm_moved.proofs.NamesShown.{IsThese, these_handed}
 use Rattle.thm_moved.specs.AtBoard.{AllCameToTheirSeats, CameToItsSeat}
 use Rattle.thm_home.proofs.ThreadsHome.{came_to_it, on}
 use Rattle.thm_home.proofs.ThreadsMail.{index_there, posted_at}
@@ -290,3 +296,19 @@ names_of_threads workload firsts answers heaps segs names tables watchers given 
     names_stay_at_board workload answers heaps segs tables
     (all workload firsts answers heaps segs names tables watchers given built declared leave)
     ∙ leave.opens.names
+
+-- so are those that lines read
+pub names_read_of_threads : (workload : Workload) (firsts : List ParticipantView) (answers : List Answer) (heaps : List HeapView)
+    (segs : SegsView) (names : NamesView) (tables : List Table) (watchers : List WatchersView) (given : IsGiven workload)
+    (built : IsBuilt workload) (declared : AreDeclared workload.participants workload.lines.items)
+    (leave : ThreadsLeave workload firsts answers heaps segs names tables watchers) (who : ℕ)
+    → AreNamesHanded no_changes (names_shown no_changes (trace_of
+    ((home_of_threads workload firsts answers heaps segs names tables watchers given built declared leave).home.courses who)))
+unfolding home_of_threads all
+names_read_of_threads workload firsts answers heaps segs names tables watchers given built declared leave who =
+    let at = all workload firsts answers heaps segs names tables watchers given built declared leave in
+    let so = home_at_board workload answers heaps segs tables at in
+    subst (λ (courses : ℕ → List Course). AreNamesHanded no_changes (names_shown no_changes (trace_of (courses who)))) (sym so.courses_are)
+    (these_handed no_changes (names_shown no_changes (trace_of (at.courses who)))
+    (subst (λ (names : NamesView). All (IsThese (shared_of names)) (names_shown no_changes (trace_of (at.courses who)))) leave.opens.names
+    (names_read_at_board workload answers heaps segs tables at who)))

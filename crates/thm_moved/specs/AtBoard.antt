@@ -1,6 +1,7 @@
 -- Participants that came home from threads over one board, each told by its own way and its seat's view; and that what they and the board leave is
 -- an end of their workload. The rules "Opening and closing" of docs/BOARD.md and "Together" of docs/RUNS.md.
 use Rattle.std.specs.Prelude.{◌≡◌, ℕ, ◌≤◌, List, [], Contains, length, map, Some, slice_get}
+use Rattle.std.specs.List.{All}
 use Rattle.hp_board.specs.Closing.{HaveMoved, handed_out}
 use Rattle.hp_board.specs.SeatView.{SeatView}
 use Rattle.hp_board.specs.Views.{made_in}
@@ -19,8 +20,11 @@ use Rattle.hp_stats.specs.StatViews.{PenView}
 use Rattle.hp_zone.specs.declared.names.Names.{Names as NamesView}
 use Rattle.hp_proc.specs.Courses.{calls_in}
 use Rattle.hp_proc.specs.Ends.{IsEnd}
+use Rattle.hp_proc.specs.Handed.{names_shown}
+use Rattle.hp_proc.specs.Handing.{shared_of}
 use Rattle.hp_proc.specs.Histories.{entries_for}
 use Rattle.hp_proc.specs.LinesDone.{Course, trace_of}
+use Rattle.hp_proc.specs.SharedNames.{SharedNames, no_changes}
 use Rattle.hp_weave.specs.Weaving.{woven}
 use Rattle.thm_run.specs.EndLaws.{IsGiven}
 use Rattle.thm_run.specs.Seats.{Seat}
@@ -86,6 +90,12 @@ HomeAtBoard = (workload : Workload) (answers : List Answer) (heaps : List HeapVi
 abbrev pub NamesStayAtBoard : Type 0
 NamesStayAtBoard = (workload : Workload) (answers : List Answer) (heaps : List HeapView) (segs : SegsView) (tables : List Table)
     (all : AllCameToTheirSeats workload answers heaps segs tables) → all.names ≡ all.opening.names.value
+
+-- and whatever names a line of any of them reads, it reads these, and none changes them
+abbrev pub NamesReadAtBoard : Type 0
+NamesReadAtBoard = (workload : Workload) (answers : List Answer) (heaps : List HeapView) (segs : SegsView) (tables : List Table)
+    (all : AllCameToTheirSeats workload answers heaps segs tables) (who : ℕ)
+    → All (λ (shown : SharedNames). shown ≡ shared_of all.opening.names.value) (names_shown no_changes (trace_of (all.courses who)))
 
 -- and that is an end of their workload, of these lines as they were done
 abbrev pub EndAtBoard : Type 0
