@@ -9,8 +9,8 @@ use hp_mail::Posted;
 use std::marker::Model;
 use std::snapshot::Snapshot;
 
-// All that was done in a hall, in order. Contracts see the list; at run time it keeps a few bytes of the last step alone, and
-// the earlier ones are a snapshot, which takes no bytes.
+// All that was done in a hall, in order. Contracts see the list; at run time it keeps of which kind the last step was alone, since all else is
+// snapshots, which take no bytes.
 #[cycle(mail_log)]
 #[derive(Drop)]
 pub(crate) struct MailLog {
@@ -22,14 +22,21 @@ pub(crate) struct MailLog {
 enum MailPast {
     Nothing,
     // Who posted to whom, and which frame, as it was planned and as it came out.
-    Post(Snapshot<MailLog>, u8, u8, Snapshot<Frame>, Action, Posted),
+    Post(
+        Snapshot<MailLog>,
+        Snapshot<u8>,
+        Snapshot<u8>,
+        Snapshot<Frame>,
+        Snapshot<Action>,
+        Snapshot<Posted>,
+    ),
     // Who fetched, out of which mailbox.
-    Fetch(Snapshot<MailLog>, u8, Snapshot<Mailbox>),
+    Fetch(Snapshot<MailLog>, Snapshot<u8>, Snapshot<Mailbox>),
     // Who took which value out of the slot with that number, and who gave one back.
-    Take(Snapshot<MailLog>, u8, usize, Snapshot<Kept>),
-    Give(Snapshot<MailLog>, u8, usize, Snapshot<Kept>),
+    Take(Snapshot<MailLog>, Snapshot<u8>, Snapshot<usize>, Snapshot<Kept>),
+    Give(Snapshot<MailLog>, Snapshot<u8>, Snapshot<usize>, Snapshot<Kept>),
     // Who did what else.
-    Other(Snapshot<MailLog>, u8, Note),
+    Other(Snapshot<MailLog>, Snapshot<u8>, Snapshot<Note>),
 }
 
 impl Model for MailLog {
@@ -72,11 +79,11 @@ impl MailLog {
         MailLog {
             past: MailPast::Post(
                 Snapshot::of(self),
-                who,
-                to,
+                Snapshot::of(&who),
+                Snapshot::of(&to),
                 Snapshot::of(frame),
-                action,
-                posted,
+                Snapshot::of(&action),
+                Snapshot::of(&posted),
             ),
         }
     }
@@ -86,7 +93,11 @@ impl MailLog {
         ensures { result ≡ self.now ++ (who, Fetches (slice_get mailbox.now 0)) ∷ [] }
     {
         MailLog {
-            past: MailPast::Fetch(Snapshot::of(self), who, Snapshot::of(mailbox)),
+            past: MailPast::Fetch(
+                Snapshot::of(self),
+                Snapshot::of(&who),
+                Snapshot::of(mailbox),
+            ),
         }
     }
 
@@ -95,7 +106,12 @@ impl MailLog {
         ensures { result ≡ self.now ++ (who, Takes number kept.now) ∷ [] }
     {
         MailLog {
-            past: MailPast::Take(Snapshot::of(self), who, number, Snapshot::of(kept)),
+            past: MailPast::Take(
+                Snapshot::of(self),
+                Snapshot::of(&who),
+                Snapshot::of(&number),
+                Snapshot::of(kept),
+            ),
         }
     }
 
@@ -104,7 +120,12 @@ impl MailLog {
         ensures { result ≡ self.now ++ (who, Gives number kept.now) ∷ [] }
     {
         MailLog {
-            past: MailPast::Give(Snapshot::of(self), who, number, Snapshot::of(kept)),
+            past: MailPast::Give(
+                Snapshot::of(self),
+                Snapshot::of(&who),
+                Snapshot::of(&number),
+                Snapshot::of(kept),
+            ),
         }
     }
 
@@ -113,7 +134,7 @@ impl MailLog {
         ensures { result ≡ self.now ++ (who, Notes note) ∷ [] }
     {
         MailLog {
-            past: MailPast::Other(Snapshot::of(self), who, note),
+            past: MailPast::Other(Snapshot::of(self), Snapshot::of(&who), Snapshot::of(&note)),
         }
     }
 }

@@ -178,7 +178,7 @@ module _ (workload : Workload) (firsts : List ParticipantView) (answers : List A
       (λ who below. told_steps who (cases_lt who count) below) 0 given.primary frame among in
       (its.0, its.2)
 
-  all : AllCameToTheirSeats workload answers heaps segs tables
+  pub all : AllCameToTheirSeats workload answers heaps segs tables
   all = record {
     given = given;
     built = built;
@@ -210,6 +210,11 @@ module _ (workload : Workload) (firsts : List ParticipantView) (answers : List A
     answered = leave.in_order
         ∙ ap (woven (map (λ line. line.participant) workload.lines.items)) (λ i who. answers_by who (cases_lt who count) i);
   }
+
+  -- the steps of who is there are those that it promised
+  pub steps_promised : (who : ℕ) → who < count → all.steps who ≡ leave.promised.steps who
+  unfolding all
+  steps_promised who below = told_steps who (cases_lt who count) below
 
   -- each began in the seat of the view that it brought
   began_in : (who : ℕ) (first : ParticipantView) (is : (who < count) ⊎ (count ≤ who)) → who < count → slice_get firsts who ≡ Some first

@@ -20,13 +20,19 @@ impl<'p, M: Mapper> Server<'p, M> {
         })
     }
 
-    /// Ends the participant, and hands out its table as it stands, and its watchers, each with what it was told. It is refused only where
-    /// there is no memory for the rows. Own.
-    pub fn end(self, alloc: Global) -> Result<End, AllocError>
+    /// Ends the participant, and hands out its table as it stands, without a copy of its rows, and its watchers, each with what it was told.
+    /// It takes no memory. Own.
+    pub fn end(self, _alloc: Global) -> Result<End, AllocError>
         ensures table { IfOk result (λ end. LeavesTable self.entry end.table) }
         ensures watchers { IfOk result (λ end. end.watchers.listeners ≡ self.entry.listeners) }
     {
-        let table = self.table(alloc)?;
+        let number = self.maps.number();
+        let _rows = self.maps.rows();
+        let table = Table {
+            joined: self.joined,
+            number,
+            rows: self.maps.into_rows(),
+        };
         Ok(End {
             table,
             watchers: self.watchers,
