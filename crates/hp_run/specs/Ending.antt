@@ -18,7 +18,7 @@ use Rattle.hp_proc.specs.LinesDone.{courses_of, trace_of}
 use Rattle.hp_proc.specs.SharedNames.{no_changes}
 use Rattle.thm_run.specs.Drops.{DropsComeFirst}
 use Rattle.thm_run.specs.Freed.{AreShown}
-use Rattle.thm_run.specs.Handing.{AreJudged, AreOfLinesBefore, HaveStatistics, HaveWatchers}
+use Rattle.thm_run.specs.Handing.{AreJudged, AreOfLinesBefore, HaveStatistics, HaveWatchers, WatchersHaveGrants}
 use Rattle.thm_run.specs.SoFar.{first_segs}
 use Rattle.thm_alike.specs.Alike.{PagesAlike, TablesAlike}
 use Rattle.thm_alike.specs.Restored.{FailuresLeaveNoRow, GrowthsRestore, TablesRestore}
@@ -71,6 +71,7 @@ pub record IsHeardEnd (workload : Workload) (answers : List Answer) (heaps : Lis
   pub drops : LosesNothing workload.plan.items → DropsComeFirst workload.participants segs.log segs.asks end.end.courses
   pub shown : AreShown segs.log segs.asks end.end.courses
   pub watched : HaveWatchers workload end.end.courses segs tables watchers
+  pub granted : WatchersHaveGrants workload end.end.courses segs tables watchers
   pub statistics : HaveStatistics end.end.courses heaps
   pub judged : AreJudged workload end.end.courses segs
   pub counted : AreOfLinesBefore workload end.end.courses
@@ -111,8 +112,8 @@ pub record IsRunEnd (workload : Workload) (mappers : List (Option (List FailingC
 -- given up has gone back, as its notice's outcome says, but for as many as the plan loses of its participant's notices; and where the plan
 -- loses no message, what lines gave up had gone before later lines saw the log. What lines see of the log never falls over all lines, with
 -- what the outcomes of their notices show: wherever one came that a run has gone back, there is a Drop of its own, which no earlier line
--- saw and every later one sees. No growth is granted that a validator denies which the lines before left, and statistics are those that the
--- lines before leave of the heap
+-- saw and every later one sees. The table of each watcher's registration has what its participant's lines were granted by then. No growth is
+-- granted that a validator denies which the lines before left, and statistics are those that the lines before leave of the heap
 pub record IsSoloRunEnd (workload : Workload) (mappers : List (Option (List FailingCall))) (answers : List Answer) (heaps : List HeapView)
     (segs : SegsView) (tables : List Table) (watchers : List (List Listener)) : Type 0 where
   pub run : IsRunEnd workload mappers answers heaps segs tables watchers
@@ -123,5 +124,6 @@ pub record IsSoloRunEnd (workload : Workload) (mappers : List (Option (List Fail
   pub notices : NoticesAreHeard workload.plan.items run.end.courses segs.asks
   pub drops : LosesNothing workload.plan.items → DropsComeFirst workload.participants segs.log segs.asks run.end.courses
   pub shown : AreShown segs.log segs.asks run.end.courses
+  pub granted : WatchersHaveGrants workload run.end.courses segs tables watchers
   pub judged : AreJudged workload run.end.courses segs
   pub counted : AreOfLinesBefore workload run.end.courses

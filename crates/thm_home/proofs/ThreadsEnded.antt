@@ -3,10 +3,13 @@ use Rattle.std.proofs.Common.{◌≡◌, ℕ, ◌<◌, List, length, Option, Som
 use Rattle.std.proofs.lemmas.Option.{slice_get_within}
 use Rattle.hp_base.specs.Mapping.{may_fail_at}
 use Rattle.hp_base.specs.declared.map_answer.MapAnswer.{MapAnswer}
+use Rattle.hp_events.specs.Watchers.{WatchersView}
 use Rattle.hp_board.specs.Closing.{left_naming}
 use Rattle.hp_hall.specs.AgreedNames.{AreAgreedNames}
 use Rattle.hp_heap.specs.History.{HeapView}
 use Rattle.hp_maps.specs.declared.table.Table.{Table}
+use Rattle.hp_script.specs.Built.{IsBuilt}
+use Rattle.hp_script.specs.Limits.{AreDeclared}
 use Rattle.hp_script.specs.declared.answer.Answer.{Answer}
 use Rattle.hp_script.specs.declared.workload.Workload.{Workload}
 use Rattle.hp_segs.specs.SegsView.{SegsView}
@@ -18,7 +21,7 @@ use Rattle.hp_proc.specs.LinesDone.{Course, courses_of, trace_of}
 use Rattle.hp_proc.specs.ParticipantView.{ParticipantView}
 use Rattle.hp_proc.specs.SharedNames.{no_changes}
 use Rattle.thm_run.proofs.PathSteps.Walked.{get_there}
-use Rattle.thm_run.specs.EndLaws.{FailsFor}
+use Rattle.thm_run.specs.EndLaws.{FailsFor, IsGiven}
 use Rattle.thm_run.specs.SoFar.{first_names, first_segs}
 use Rattle.thm_alike.proofs.EndAlike.{ends_alike}
 use Rattle.thm_alike.proofs.EndRestored.{courses_restore, end_tables_restore}
@@ -32,6 +35,7 @@ use Rattle.thm_together.proofs.HomeLed.{led_where_home}
 use Rattle.thm_together.proofs.HomeWays.{are_woven}
 use Rattle.thm_together.specs.CameHome.{courses_in_order}
 use Rattle.thm_together.specs.Failing as home
+use Rattle.hp_threads.specs.Running.{ThreadsLeave}
 use Rattle.thm_home.proofs.AllAtBoard.{home_of_threads, names_of_threads, names_read_of_threads}
 use Rattle.thm_home.specs.EndOfThreads.{CameHomeFrom, EndOfThreads, FailAsBrought, MayFailAt, MayFailSo, ThreadsEnd}
 
@@ -111,3 +115,16 @@ end_of_threads workload firsts answers heaps segs names tables watchers given bu
     (home_of_threads workload firsts answers heaps segs names tables watchers given built declared leave) leave.promised.begun names
     (names_of_threads workload firsts answers heaps segs names tables watchers given built declared leave) leave.names_are.agreed
     (names_read_of_threads workload firsts answers heaps segs names tables watchers given built declared leave)
+
+-- its lines are those with which all came home
+pub courses_at_end : (workload : Workload) (firsts : List ParticipantView) (answers : List Answer) (heaps : List HeapView) (segs : SegsView)
+    (names : NamesView) (tables : List Table) (watchers : List WatchersView) (given : IsGiven workload) (built : IsBuilt workload)
+    (declared : AreDeclared workload.participants workload.lines.items)
+    (leave : ThreadsLeave workload firsts answers heaps segs names tables watchers)
+    → (end_of_threads workload firsts answers heaps segs names tables watchers given built declared leave).end.courses
+    ≡ courses_in_order workload
+    (home_of_threads workload firsts answers heaps segs names tables watchers given built declared leave).home.courses
+unfolding end_of_threads all
+courses_at_end workload firsts answers heaps segs names tables watchers given built declared leave =
+    (end_where_home workload answers heaps segs tables
+    (home_of_threads workload firsts answers heaps segs names tables watchers given built declared leave).home).1

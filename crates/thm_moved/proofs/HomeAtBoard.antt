@@ -240,6 +240,7 @@ home_at_board workload answers heaps segs tables all = record {
   home = home workload answers heaps segs tables all;
   courses_are = refl;
   began = λ who seat there. sym (listed_is workload.participants all.first who seat there).1;
+  ended = λ who seat there. sym (listed_is workload.participants all.last who seat there).1;
 }
 
 pub end_at_board : EndAtBoard

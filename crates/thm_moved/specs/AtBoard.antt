@@ -72,18 +72,19 @@ pub record AllCameToTheirSeats (workload : Workload) (answers : List Answer) (he
   pub posted : (frame : Frame) → Contains (steps 0) (Fetches (Some frame)) → (from : ℕ) × Contains (posted_to 0 (steps from)) frame
   pub answered : answers ≡ woven (map (λ line. line.participant) workload.lines.items) (λ who. map (λ course. course.answer) (courses who))
 
--- all came home, each from the seat in which it began, with these lines
+-- all came home, each from the seat in which it began to the one in which it ended, with these lines
 pub record ComeHomeSo (workload : Workload) (answers : List Answer) (heaps : List HeapView) (segs : SegsView) (tables : List Table)
-    (first : ℕ → Seat) (courses : ℕ → List Course) : Type 0 where
+    (first last : ℕ → Seat) (courses : ℕ → List Course) : Type 0 where
   pub home : AllCameHome workload answers heaps segs tables
   pub courses_are : home.courses ≡ courses
   pub began : (who : ℕ) (seat : Seat) → slice_get home.first who ≡ Some seat → seat ≡ first who
+  pub ended : (who : ℕ) (seat : Seat) → slice_get home.last who ≡ Some seat → seat ≡ last who
 
 -- wherever they did so, they came home
 abbrev pub HomeAtBoard : Type 0
 HomeAtBoard = (workload : Workload) (answers : List Answer) (heaps : List HeapView) (segs : SegsView) (tables : List Table)
     (all : AllCameToTheirSeats workload answers heaps segs tables)
-    → ComeHomeSo workload answers heaps segs tables all.first all.courses
+    → ComeHomeSo workload answers heaps segs tables all.first all.last all.courses
 
 -- the names are those with which the board opened
 abbrev pub NamesStayAtBoard : Type 0

@@ -66,6 +66,7 @@ returns-clause-end g c =
       notices = heard.notices;
       drops = heard.drops;
       shown = heard.shown;
+      granted = heard.granted;
       judged = heard.judged;
       counted = heard.counted;
     }) c.run_in.ensures.end c.run_in.ensures.named by_plan
