@@ -47,7 +47,7 @@ same_doer : (old new : ParticipantView) → new.context ≡ old.context → with
 same_doer old new knew = ap (λ (context : Context). record { party = new.party; context = context }) (sym knew)
 
 abbrev blank : Standing → Party → Seat
-blank left party = record { party = party; standing = left; trace = []; fetched = []; asking = None }
+blank left party = record { party = party; standing = left; lines = []; trace = []; fetched = []; asking = None }
 
 -- serving asks for nothing of its own
 asked_stays : (count who : ℕ) (left : Standing) (old new : Party) (steps : List MailStep) (moved : Bool) → old.me ≡ who
