@@ -61,36 +61,36 @@ own_lines chair =
     (unwrap_or (option_map (λ (awaited : Awaited). awaited.lines) (value_of mine.who mine.awaited)) 0) (eq-eqb mine.who mine.who refl)
 
 module _ (a b : ChairView) (me : ℕ) (steps : List MailStep) (course : IsChairCourse a b) (did : Did me steps (chair_state a) (chair_state b))
-    where
-  -- the steps of its own participant are those that the hall went on by
-  own_steps : me ≡ a.seat.mine.who → course.steps ≡ steps
-  own_steps own =
-      let here = eq-eqb me a.seat.mine.who own in
-      let there = eq-eqb me b.seat.mine.who (own ∙ sym course.who) in
-      append_cancel_left a.steps course.steps steps
-      (sym course.made ∙ sym (cond-true (eqb me b.seat.mine.who) b.steps [] there)
-      ∙ did.made ∙ ap (λ (done : List MailStep). done ++ steps) (cond-true (eqb me a.seat.mine.who) a.steps [] here))
+  where
+    -- the steps of its own participant are those that the hall went on by
+    own_steps : me ≡ a.seat.mine.who → course.steps ≡ steps
+    own_steps own =
+        let here = eq-eqb me a.seat.mine.who own in
+        let there = eq-eqb me b.seat.mine.who (own ∙ sym course.who) in
+        append_cancel_left a.steps course.steps steps
+        (sym course.made ∙ sym (cond-true (eqb me b.seat.mine.who) b.steps [] there)
+        ∙ did.made ∙ ap (λ (done : List MailStep). done ++ steps) (cond-true (eqb me a.seat.mine.who) a.steps [] here))
 
-  -- it has told of as many lines, where none of them told
-  own_told : me ≡ a.seat.mine.who → TellNothing steps → (chair_state b).lines me ≡ (chair_state a).lines me
-  own_told own none =
-      let here = eq-eqb me a.seat.mine.who own in
-      let there = eq-eqb me b.seat.mine.who (own ∙ sym course.who) in
-      let done : b.seat.mine.done ≡ a.seat.mine.done =
-      course.done.told
-      ∙ (ap (λ (steps : List MailStep). marks_by a.seat.mine [] steps ++ a.seat.mine.done) (own_steps own)
-      ∙ ap (λ (marks : List LinesDone). marks ++ a.seat.mine.done) (no_marks a.seat.mine [] steps none)) in
-      cond-true (eqb me b.seat.mine.who) (lines_of b.seat.mine.who b) 0 there
-      ∙ (own_lines b ∙ (ap told_last done ∙ sym (own_lines a)))
-      ∙ sym (cond-true (eqb me a.seat.mine.who) (lines_of a.seat.mine.who a) 0 here)
+    -- it has told of as many lines, where none of them told
+    own_told : me ≡ a.seat.mine.who → TellNothing steps → (chair_state b).lines me ≡ (chair_state a).lines me
+    own_told own none =
+        let here = eq-eqb me a.seat.mine.who own in
+        let there = eq-eqb me b.seat.mine.who (own ∙ sym course.who) in
+        let done : b.seat.mine.done ≡ a.seat.mine.done =
+        course.done.told
+        ∙ (ap (λ (steps : List MailStep). marks_by a.seat.mine [] steps ++ a.seat.mine.done) (own_steps own)
+        ∙ ap (λ (marks : List LinesDone). marks ++ a.seat.mine.done) (no_marks a.seat.mine [] steps none)) in
+        cond-true (eqb me b.seat.mine.who) (lines_of b.seat.mine.who b) 0 there
+        ∙ (own_lines b ∙ (ap told_last done ∙ sym (own_lines a)))
+        ∙ sym (cond-true (eqb me a.seat.mine.who) (lines_of a.seat.mine.who a) 0 here)
 
-  -- another one has told of none
-  other_told : me ≢ a.seat.mine.who → (chair_state b).lines me ≡ (chair_state a).lines me
-  other_told apart =
-      let here = ne_eqb me a.seat.mine.who apart in
-      let there = ne_eqb me b.seat.mine.who (λ same. apart (same ∙ course.who)) in
-      cond-false (eqb me b.seat.mine.who) (lines_of b.seat.mine.who b) 0 there
-      ∙ sym (cond-false (eqb me a.seat.mine.who) (lines_of a.seat.mine.who a) 0 here)
+    -- another one has told of none
+    other_told : me ≢ a.seat.mine.who → (chair_state b).lines me ≡ (chair_state a).lines me
+    other_told apart =
+        let here = ne_eqb me a.seat.mine.who apart in
+        let there = ne_eqb me b.seat.mine.who (λ same. apart (same ∙ course.who)) in
+        cond-false (eqb me b.seat.mine.who) (lines_of b.seat.mine.who b) 0 there
+        ∙ sym (cond-false (eqb me a.seat.mine.who) (lines_of a.seat.mine.who a) 0 here)
 
 module _ (a b : ChairView) (me : ℕ) (steps : List MailStep) (course : IsChairCourse a b) (did : Did me steps (chair_state a) (chair_state b))
     (heap : ℕ) where

@@ -221,6 +221,10 @@ module _ (workload : Workload) (firsts : List ParticipantView) (answers : List A
   unfolding all
   steps_promised who below = told_steps who (cases_lt who count) below
 
+  pub pens_at_board : all.pens ≡ leave.pens
+  unfolding all
+  pens_at_board = refl
+
   -- each began in the seat of the view that it brought
   began_in : (who : ℕ) (first : ParticipantView) (is : (who < count) ⊎ (count ≤ who)) → who < count → slice_get firsts who ≡ Some first
       → (told_of who is).first.party ≡ first.party
@@ -258,6 +262,18 @@ home_of_threads workload firsts answers heaps segs names tables watchers given b
           ∙ began_in workload firsts answers heaps segs names tables watchers given built declared leave who first (cases_lt who workload.participants)
           below brought;
     }
+
+-- the lines with which all came home are those with which they came to their seats
+pub courses_at_home : (workload : Workload) (firsts : List ParticipantView) (answers : List Answer) (heaps : List HeapView) (segs : SegsView)
+    (names : NamesView) (tables : List Table) (watchers : List WatchersView) (given : IsGiven workload) (built : IsBuilt workload)
+    (declared : AreDeclared workload.participants workload.lines.items)
+    (leave : ThreadsLeave workload firsts answers heaps segs names tables watchers)
+    → (home_of_threads workload firsts answers heaps segs names tables watchers given built declared leave).home.courses
+    ≡ (all workload firsts answers heaps segs names tables watchers given built declared leave).courses
+unfolding home_of_threads
+courses_at_home workload firsts answers heaps segs names tables watchers given built declared leave =
+    (home_at_board workload answers heaps segs tables
+    (all workload firsts answers heaps segs names tables watchers given built declared leave)).courses_are
 
 -- the watchers that they left are those of the seats in which they ended
 pub watched_in_seats : (workload : Workload) (firsts : List ParticipantView) (answers : List Answer) (heaps : List HeapView) (segs : SegsView)
