@@ -44,12 +44,11 @@ module _ (workload : Workload) (whole : List Course) (are : AreOfLinesBefore wor
         sym (flat_map-append (λ (course : Course). course.trace) before (course ∷ later)) ∙ ap trace_of (sym lines) in
         let all = parts_unchanged (trace_of before) (course.trace ++ trace_of later) (ap changes whole_is ∙ are.unchanged) in
         let here = parts_unchanged course.trace (trace_of later) all.1 in
-        let parts = parts_unchanged first rest (ap changes (sym trace) ∙ here.0) in
-        (
+        let parts = parts_unchanged first rest (ap changes (sym trace) ∙ here.0) in (
           ap changes (trace_more before (at course first))
-          ∙ filter_map-append change_made (trace_of before) first
-          ∙ ap (λ (early : List NamesChange). early ++ changes first) all.0
-          ∙ parts.0,
+              ∙ filter_map-append change_made (trace_of before) first
+              ∙ ap (λ (early : List NamesChange). early ++ changes first) all.0
+              ∙ parts.0,
           parts.1,
         )
 
