@@ -20,7 +20,7 @@ use Rattle.hp_proc.specs.RunEnds.{EndsWithNames}
 use Rattle.hp_zone.specs.declared.names.Names.{Names as NamesView}
 use Rattle.thm_run.specs.Drops.{DropsComeFirst}
 use Rattle.thm_run.specs.Freed.{AreShown}
-use Rattle.thm_run.specs.Handing.{AreJudged, AreOfLinesBefore, HaveStatistics, HaveWatchers}
+use Rattle.thm_run.specs.Handing.{AreJudged, AreOfLinesBefore, HaveStatistics, HaveWatchers, WatchersHaveGrants}
 use Rattle.thm_run.specs.SoFar.{first_segs}
 use Rattle.thm_alike.specs.Alike.{PagesAlike, TablesAlike}
 use Rattle.thm_alike.specs.Restored.{FailuresLeaveNoRow, GrowthsRestore, TablesRestore}
@@ -75,6 +75,7 @@ pub record IsHeardEnd (workload : Workload) (answers : List Answer) (heaps : Lis
   pub drops : LosesNothing workload.plan.items → DropsComeFirst workload.participants segs.log segs.asks end.end.courses
   pub shown : AreShown segs.log segs.asks end.end.courses
   pub watched : HaveWatchers workload end.end.courses segs tables watchers
+  pub granted : WatchersHaveGrants workload end.end.courses segs tables watchers
   pub statistics : HaveStatistics end.end.courses heaps
   pub judged : AreJudged workload end.end.courses segs
   pub counted : AreOfLinesBefore workload end.end.courses
@@ -116,7 +117,7 @@ pub record IsRunEnd (workload : Workload) (mappers : List (Option (List FailingC
 -- its notice's outcome says, but for as many as the plan loses of its participant's notices; and where the plan loses no message, what lines
 -- gave up had gone before later lines saw the log. What lines see of the log never falls over all lines, with what the outcomes of their
 -- notices show: wherever one came that a run has gone back, there is a Drop of its own, which no earlier line saw and every later one sees.
--- No growth is granted that a validator denies which the lines before left, and names, states of external heaps and statistics are those that the
+-- The table of each watcher's registration has what its participant's lines were granted by then. No growth is granted that a validator denies which the lines before left, and names, states of external heaps and statistics are those that the
 -- lines before leave
 pub record IsSoloRunEnd (workload : Workload) (mappers : List (Option (List FailingCall))) (answers : List Answer) (heaps : List HeapView)
     (segs : SegsView) (tables : List Table) (watchers : List (List Listener)) (names : NamesView) : Type 0 where
@@ -129,5 +130,6 @@ pub record IsSoloRunEnd (workload : Workload) (mappers : List (Option (List Fail
   pub notices : NoticesAreHeard workload.plan.items run.end.courses segs.asks
   pub drops : LosesNothing workload.plan.items → DropsComeFirst workload.participants segs.log segs.asks run.end.courses
   pub shown : AreShown segs.log segs.asks run.end.courses
+  pub granted : WatchersHaveGrants workload run.end.courses segs tables watchers
   pub judged : AreJudged workload run.end.courses segs
   pub counted : AreOfLinesBefore workload run.end.courses

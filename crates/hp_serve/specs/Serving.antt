@@ -66,6 +66,10 @@ pub record Replies (party : Party) (body : Body) (step : MailStep) : Type 0 wher
 abbrev pub told_of : List LogRecord → Caught → MapsView → List Listener → List Listener
 told_of log caught maps listeners = all_told (caught_events maps.rows maps.number (newer log maps.number (length log)) caught) listeners
 
+-- how many events are told of a catch-up with a log at most
+abbrev pub most_told : List LogRecord → MapsView → ℕ
+most_told log maps = length (caught_events maps.rows maps.number (newer log maps.number (length log)) caught.Done)
+
 -- a participant that has caught up with a log, or failed to: it has a table, if it had one or has caught up, and its watchers were told
 abbrev pub after_catching_up : List LogRecord → Caught → MapsView → Party → Party
 after_catching_up log caught maps party = record party {

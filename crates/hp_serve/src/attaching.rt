@@ -16,7 +16,7 @@ ghost use Rattle.hp_hall.specs.declared.note.Note.{Note};
 ghost use Rattle.hp_serve.specs.SegmentSlot.{GivesBack, HasSegs, MayHold, StaysButOwn, StaysButRoster};
 
 use crate::calls::{give_segments, put_back, take_segments};
-use crate::catching::{is_done, make_room};
+use crate::catching::{catch_up, is_done, make_room};
 use hp_base::{Caught, Mapper, Silent};
 use hp_events::Watchers;
 use hp_hall::Hall;
@@ -86,7 +86,7 @@ fn take_whole_log<H: Hall, M: Mapper>(
     let _rows = maps.rows();
     let records = segs.records();
     let to = records.len() as u64;
-    let caught = maps.catch_up(records, to, watchers);
+    let caught = catch_up(maps, watchers, records);
     if is_done(&caught) {
         hall.ack(me, to);
         return caught;

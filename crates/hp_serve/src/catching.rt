@@ -2,8 +2,10 @@
 ghost use Rattle.std.specs.Prelude.{◌≡◌, ◌≢◌, ◌^◌, ◌+◌, ◌≤◌, ◌||◌, [], true, false, length};
 ghost use Rattle.hp_base.specs.declared.limits.TheConstants.{MAX_HEAPS};
 ghost use Rattle.hp_base.specs.Mapping.{is_done};
-ghost use Rattle.hp_maps.specs.MapsView.{calls_of};
-ghost use Rattle.hp_serve.specs.Serving.{CatchesUp, HasUsedUpCalls, MayStopMapping, tells_after_catching, told_of};
+ghost use Rattle.hp_log.specs.Log.{table_at};
+ghost use Rattle.hp_maps.specs.Catching.{CanCatchUp};
+ghost use Rattle.hp_maps.specs.MapsView.{calls_of, chunk_rows, table_in};
+ghost use Rattle.hp_serve.specs.Serving.{CatchesUp, HasUsedUpCalls, MayStopMapping, most_told, tells_after_catching, told_of};
 ghost use Rattle.hp_serve.specs.InHall.{marked_in};
 ghost use Rattle.hp_serve.specs.Tied.{IsTied};
 ghost use Rattle.hp_hall.specs.HallState.{Did};
@@ -11,9 +13,10 @@ ghost use Rattle.hp_hall.specs.Mail.{HasInHand};
 ghost use Rattle.hp_serve.specs.SegmentSlot.{MayCatchUp, StaysButOwn};
 
 use crate::calls::tell_number;
-use hp_base::{Caught, Mapper};
+use hp_base::{Caught, Mapper, Silent};
 use hp_events::Watchers;
 use hp_hall::Hall;
+use hp_log::LogRecord;
 use hp_maps::LocalMaps;
 use hp_segs::{Segs, log_law};
 
@@ -82,6 +85,30 @@ pub(crate) fn has_table(joined: bool, caught: &Caught) -> bool
     if joined { true } else { is_done(caught) }
 }
 
+/// Catches up with all records, and tells the watchers of that. Where nobody watches, no row is looked at to be told.
+pub(crate) fn catch_up<M: Mapper>(
+    maps: &mut LocalMaps<M>,
+    watchers: &mut Watchers,
+    records: &[LogRecord],
+) -> Caught
+    requires can { CanCatchUp maps.old records.now (length records.now) }
+    requires spare { most_told records.now maps.old ≤ watchers.old.spare }
+    requires few { most_told records.now maps.old ≤ 2 ^ 64 }
+    ensures caught { CatchesUp records.now maps.old maps.new result }
+    ensures told { watchers.new.listeners ≡ told_of records.now result maps.old watchers.old.listeners }
+    ensures table { is_done result ≡ true → table_in maps.new.rows ≡ table_at records.now (length records.now) }
+    ensures chunks { chunk_rows maps.new.rows ≡ chunk_rows maps.old.rows }
+    ensures capacity { maps.new.capacity ≡ maps.old.capacity }
+{
+    let to = records.len() as u64;
+    if watchers.len() == 0 {
+        let unheard = maps.catch_up(records, to, &mut Silent);
+        return unheard;
+    }
+    let heard = maps.catch_up(records, to, watchers);
+    heard
+}
+
 /// Takes the whole log of the segment value in, tells the watchers of that, and the hall how far the table has come. `joined` says whether
 /// the participant had a table before.
 pub(crate) fn take_in<H: Hall, M: Mapper>(
@@ -109,7 +136,7 @@ pub(crate) fn take_in<H: Hall, M: Mapper>(
     let _rows = maps.rows();
     let records = segs.records();
     let to = records.len() as u64;
-    let caught = maps.catch_up(records, to, watchers);
+    let caught = catch_up(maps, watchers, records);
     tell_number(hall, me, &caught, to);
     caught
 }

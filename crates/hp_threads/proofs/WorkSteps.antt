@@ -47,7 +47,7 @@ same_doer : (old new : ParticipantView) → new.context ≡ old.context → with
 same_doer old new knew = ap (λ (context : Context). record { party = new.party; context = context }) (sym knew)
 
 abbrev blank : Standing → Party → Seat
-blank left party = record { party = party; standing = left; trace = []; fetched = []; asking = None }
+blank left party = record { party = party; standing = left; lines = []; trace = []; fetched = []; asking = None }
 
 -- serving asks for nothing of its own
 asked_stays : (count who : ℕ) (left : Standing) (old new : Party) (steps : List MailStep) (moved : Bool) → old.me ≡ who
@@ -192,6 +192,7 @@ module _ (workload : Workload) (me : ℕ) (courses : List Course) (first old new
                   (subst (λ (hand : Option ℕ). Acts from.count None hand does.held old (doer_at does.mid) it.trace it.steps)
                   (ap (λ (moment : Moment). moment.hand) (sym does.ended)) it.acts);
               ended = ap doer_at does.ended;
+              left = does.left;
               added = line_added;
             }));
         done = done_still workload more me new new is.others.later is.part (same_party new.party) refl refl line_done;

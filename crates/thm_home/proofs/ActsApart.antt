@@ -29,7 +29,7 @@ pub record ActsApart (index : ℕ) (fin : Option ℕ) (trace : List Done) (steps
 no_call : (who index number : ℕ) (call : OwnCall) → call.heap ≢ index → entries_for who index number (call ∷ []) ≡ []
 no_call who index number call apart = cond-false (call.heap == index) (entry_for who number call ∷ []) [] (ne_eqb call.heap index apart)
 
-none_of : (index : ℕ) → None ≢ Some index
+pub none_of : (index : ℕ) → None ≢ Some index
 none_of index same = cc
 
 both_none : (one other : ℕ) → one + other ≡ 0 → (one ≡ 0) × (other ≡ 0)
@@ -48,7 +48,9 @@ acts_apart (Acts.takes_heap doer heap pen) index apart none =
     let differ : heap.plain.index ≢ index =
     λ same.
     let one : cond {A = ℕ} (heap.plain.index == index) 1 0 ≡ 1 = cond-true (heap.plain.index == index) 1 0 (eq-eqb heap.plain.index index same) in
-    let all = count_by-cons (λ (other : ℕ). other == index) heap.plain.index [] in
+    let all : count_by (λ (other : ℕ). other == index) (heap.plain.index ∷ [])
+    ≡ cond {A = ℕ} (heap.plain.index == index) 1 0 + count_by (λ (other : ℕ). other == index) [] =
+    count_by-cons (λ (other : ℕ). other == index) heap.plain.index [] in
     omega (arith, one, all, none) in
     record { last = λ same. differ (same_Some heap.plain.index index same); beside = (differ, tt); calls = λ who number. refl }
 acts_apart (Acts.gives_heap doer heap pen) index apart none =

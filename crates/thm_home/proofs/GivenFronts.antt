@@ -219,17 +219,17 @@ module _ (who index : ℕ) (low : index < MAX_HEAPS) (end : Slotted) where
   own_goes : (slots : Slotted) (move : Move) (rest : List Move) → IsMove who move slots → Ends (slots_after who move slots) rest
       → Ends slots (move ∷ rest)
   own_goes slots (Took slot (Heap heap pen)) rest is ends = took_heap slots slot heap pen rest is ends
-  own_goes slots (Took slot (Segments segs)) rest is ends taken has =
+  own_goes slots (Took slot (Segments segs)) rest is ends = λ taken has.
       let last = (good_taken who slot (Segments segs) slots is).0 in
       took_past slots who slot (Segments segs) rest taken (λ same. omega (arith, same, last, low)) ends has
-  own_goes slots (Took slot (Names names)) rest is ends taken has =
+  own_goes slots (Took slot (Names names)) rest is ends = λ taken has.
       let last = (good_taken who slot (Names names) slots is).0 in
       took_past slots who slot (Names names) rest taken (λ same. omega (arith, same, last, low)) ends has
   own_goes slots (Gave slot (Heap heap pen)) rest is ends = gave_heap slots slot heap pen rest is ends
-  own_goes slots (Gave slot (Segments segs)) rest is ends taken has =
+  own_goes slots (Gave slot (Segments segs)) rest is ends = λ taken has.
       let last = (good_given who slot (Segments segs) slots is).0 in
       gave_past slots who slot (Segments segs) rest taken (λ same. omega (arith, same, last, low)) ends has
-  own_goes slots (Gave slot (Names names)) rest is ends taken has =
+  own_goes slots (Gave slot (Names names)) rest is ends = λ taken has.
       let last = (good_given who slot (Names names) slots is).0 in
       gave_past slots who slot (Names names) rest taken (λ same. omega (arith, same, last, low)) ends has
 

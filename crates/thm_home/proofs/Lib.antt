@@ -3,6 +3,7 @@ pub mod ThreadsEnded
 pub mod ThreadsHome
 pub mod ThreadsMail
 pub mod WaysOfWorks
+pub mod WatchersHome
 pub mod BesideHeap
 pub mod ActsApart
 pub mod ActsSplit

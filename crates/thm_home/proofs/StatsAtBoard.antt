@@ -192,10 +192,10 @@ module _ (workload : Workload) (answers : List Answer) (heaps : List HeapView) (
           in
           let goes = goes_from who index low end now.left now.next (moves_in late) now.replay (ap now.next.word (sym its) ∙ now.word) now.own in
           let front : history_of (now.next.value index) ≡ given.history = ap history_of (ap now.next.value (sym its) ∙ now.value) in
-          let few =
+          let few : length given.history ≤ at.pair.entries =
           has.rising at.before at.behind index at.pair at.steps_are (pair_of given)
           (published_among index slot at.before before (Gives slot (Heap given pen) ∷ behind) (pair_of given) its is) in
-          let count = ap (λ (c : Counted). c.entries) at.is in
+          let count : counted.entries ≡ at.pair.entries = ap (λ (c : Counted). c.entries) at.is in
           record {
             front = history_of (now.next.value index);
             own = own_in who index low end None (moves_in late);

@@ -209,22 +209,21 @@ module _ (who : ℕ) (heap : HeapView) (pen : PenView) (trace : List Done) (step
   rises_on : (first rest : List Done) → trace ≡ first ++ rest → (floor : ℕ) → IsFloor first floor
       → Rises floor (length heap.history) (entries_in rest)
   rises_on first [] is floor its = floor_below first [] floor is its
-  rises_on first (done ∷ rest) is floor its = by_read (counted_read index done) refl
+  rises_on first (done ∷ rest) is floor its =
+      by_read (rises_on (first ++ done ∷ []) rest (is ∙ sym (append_assoc first (done ∷ []) rest))) (counted_read index done) refl
     where
-      next : trace ≡ (first ++ done ∷ []) ++ rest
-      next = is ∙ sym (append_assoc first (done ∷ []) rest)
-
-      by_read : (read : Option Counted) → counted_read index done ≡ read → Rises floor (length heap.history) (entries_in (done ∷ rest))
-      by_read None none =
+      by_read : ((floor : ℕ) → IsFloor (first ++ done ∷ []) floor → Rises floor (length heap.history) (entries_in rest))
+          → (read : Option Counted) → counted_read index done ≡ read → Rises floor (length heap.history) (entries_in (done ∷ rest))
+      by_read on None none =
           subst (λ (read : Option Counted). Rises floor (length heap.history) (map (λ (counted : Counted). counted.entries)
-          (cons_option read (read_in rest)))) (sym none) (rises_on (first ++ done ∷ []) rest next floor (floor_on first done floor its))
-      by_read (Some counted) some =
+          (cons_option read (read_in rest)))) (sym none) (on floor (floor_on first done floor its))
+      by_read on (Some counted) some =
           let done_is : done ≡ StatsRead index counted = read_is index done counted some in
           let here : trace ≡ first ++ StatsRead index counted ∷ rest = is ∙ ap (λ (one : Done). first ++ one ∷ rest) done_is in
           subst (λ (read : Option Counted). Rises floor (length heap.history) (map (λ (counted : Counted). counted.entries)
           (cons_option read (read_in rest)))) (sym some) (
             floor_under counted first rest floor here its,
-            rises_on (first ++ done ∷ []) rest next counted.entries
+            on counted.entries
                 (inr (record {
                   counted = counted;
                   early = first;

@@ -2,9 +2,7 @@
 use Rattle.std.proofs.Common.{◌≡◌, ◌∙◌, ℕ, ◌<◌, List, Some, ap, sym, subst, arith}
 use Rattle.std.specs.Prelude.{slice_get}
 use Rattle.std.specs.List.{All}
-use Rattle.hp_chair.specs.Steps.{pairs_in}
 use Rattle.hp_events.specs.Watchers.{WatchersView}
-use Rattle.hp_hall.specs.Mail.{MailStep}
 use Rattle.hp_heap.specs.History.{HeapView}
 use Rattle.hp_maps.specs.declared.table.Table.{Table}
 use Rattle.hp_script.specs.Limits.{AreDeclared}
@@ -27,8 +25,7 @@ use Rattle.thm_run.specs.EndLaws.{IsGiven}
 use Rattle.thm_run.specs.Handing.{HaveStatistics}
 use Rattle.thm_together.proofs.HomeWays.{are_woven}
 use Rattle.thm_together.specs.CameHome.{courses_in_order}
-use Rattle.thm_moved.proofs.HomeAtBoard.{home_at_board}
-use Rattle.thm_home.proofs.AllAtBoard.{all, home_of_threads, steps_promised}
+use Rattle.thm_home.proofs.AllAtBoard.{all, courses_at_home, home_of_threads, pens_at_board, steps_promised}
 use Rattle.thm_home.proofs.StatsAtBoard.{stats_at_board}
 use Rattle.thm_home.specs.StatsOfThreads.{HaveReadBy}
 
@@ -53,16 +50,18 @@ pub statistics_where_home : (workload : Workload) (firsts : List ParticipantView
     (leave : ThreadsLeave workload firsts answers heaps segs names tables watchers)
     → HaveStatistics (courses_in_order workload
     (home_of_threads workload firsts answers heaps segs names tables watchers given declared leave).home.courses) heaps
-unfolding home_of_threads all
 statistics_where_home workload firsts answers heaps segs names tables watchers given declared leave =
     let at_board = all workload firsts answers heaps segs names tables watchers given declared leave in
-    let so = home_at_board workload answers heaps segs tables at_board in
+    let came = home_of_threads workload firsts answers heaps segs names tables watchers given declared leave in
+    let same = courses_at_home workload firsts answers heaps segs names tables watchers given declared leave in
+    let pens = pens_at_board workload firsts answers heaps segs names tables watchers given declared leave in
     λ who.
     subst (λ (courses : List Course). All (AreStatsHanded who (trace_of courses)) heaps)
-    (sym ((are_woven workload answers heaps segs tables so.home).own who ∙ ap (λ (courses : ℕ → List Course). courses who) so.courses_are))
+    (sym ((are_woven workload answers heaps segs tables came.home).own who ∙ ap (λ (courses : ℕ → List Course). courses who) same))
     (stats_at_board workload answers heaps segs tables at_board
     (λ one below.
-    subst (HaveReadBy leave.pens)
+    subst (λ (pens : List PenView). HaveReadBy pens (at_board.steps one)) (sym pens)
+    (subst (HaveReadBy leave.pens)
     (sym (steps_promised workload firsts answers heaps segs names tables watchers given declared leave one below))
-    (have_read workload firsts answers heaps segs names tables watchers leave one below))
+    (have_read workload firsts answers heaps segs names tables watchers leave one below)))
     who)

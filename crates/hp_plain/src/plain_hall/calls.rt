@@ -77,11 +77,13 @@ impl Hall for PlainHall {
         (pair.entries, pair.stats)
     }
 
+    #[inline(always)]
     fn post(&mut self, me: u8, to: u8, frame: Frame, action: Action) -> Posted {
         self.sound();
         self.post_at(me, to, &frame, action)
     }
 
+    #[inline(always)]
     fn fetch(&mut self, me: u8) -> Option<Frame> {
         self.sound();
         self.fetch_at(me)

@@ -22,7 +22,9 @@ pub fn empty_boxes(alloc: Global, participants: u8) -> Result<Vec<Mailbox>, Allo
 }
 
 impl PlainHall {
-    // A frame is posted to a participant, as it is planned, and it is noted.
+    // A frame is posted to a participant, as it is planned, and it is noted. It stands apart, so that the frame that came by value is not
+    // copied on the way.
+    #[inline(never)]
     pub(crate) fn post_at(&mut self, me: u8, to: u8, frame: &Frame, action: Action) -> Posted
         requires { to < length self.old.owns }
         ensures posted { result ≡ posted_as action (length (box_of self.old.boxes to)) }

@@ -66,10 +66,12 @@ impl<'p, M: Mapper, F: Decide + Copy + Drop> Hall for SoloHall<'p, M, F> {
         self.plain.read(me, heap)
     }
 
+    #[inline(always)]
     fn post(&mut self, me: u8, to: u8, frame: Frame, action: Action) -> Posted {
         self.plain.post(me, to, frame, action)
     }
 
+    #[inline(always)]
     fn fetch(&mut self, me: u8) -> Option<Frame> {
         self.plain.fetch(me)
     }

@@ -35,10 +35,12 @@ pub run_apart-requires-clause-newcomers : goal.run_apart-requires-clause-newcome
 run_apart-requires-clause-newcomers g c κs lives =
     all_new c.args.workload.now (map (λ kit. g.M.Mapper.may_fail kit.mapper) c.args.kits.items) c.in_ok-all.all.items c.in_ok-all.ensures
 
-pub returns-clause-end : goal.returns-clause-end
-returns-clause-end g c =
-    if_ok _ _ c.run_apart.result
-    (λ left is.
-    left_is_end c.args.workload.now (map (λ kit. g.M.Mapper.may_fail kit.mapper) c.args.kits.items) left.answers.items left.heaps.items left.segs
-    left.names left.tables.items left.watchers.items c.handed_end_law.ensures c.requires.runnable
-    (record { firsts = c.in_ok-all.all.items; begun = c.in_ok-all.ensures; leave = is })) c.run_apart.ensures
+pub returns : goal.returns
+returns g c = record {
+  end =
+      if_ok _ _ c.run_apart.result
+      (λ left is.
+      left_is_end c.args.workload.now (map (λ kit. g.M.Mapper.may_fail kit.mapper) c.args.kits.items) left.answers.items left.heaps.items left.segs
+      left.names left.tables.items left.watchers.items c.handed_end_law.ensures c.requires.runnable
+      (record { firsts = c.in_ok-all.all.items; begun = c.in_ok-all.ensures; leave = is })) c.run_apart.ensures;
+}

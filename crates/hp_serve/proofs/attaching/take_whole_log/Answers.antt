@@ -41,16 +41,28 @@ catch_up-caught-requires-clause-spare g c =
     let room = c.requires.room in
     omega (arith, told, room, ap length c.records-records.ensures.records)
 
+pub catch_up-caught-requires-clause-few : goal.catch_up-caught-requires-clause-few
+catch_up-caught-requires-clause-few g c =
+    let segs = c.args.segs.now in
+    let records = c.records-records.result.now in
+    let sound = c.records-records.ensures.sound in
+    let few : slots_in (places_of segs.pools) ≤ 16384 = omega (arith, c.log_law.ensures.few segs sound) in
+    let told =
+    tells_one_a_record (places_of segs.pools) c.args.maps.now records (length records) Done
+    (tied_can (places_of segs.pools) segs.log records ((g.H.Hall.state c.args.hall.now).own c.args.me) c.args.joined c.args.maps.now
+    c.records-records.ensures.records (c.log_law.ensures.placed segs sound) few c.requires.tied c.requires.calls) in
+    omega (arith, told, c.records-records.type_inv.1)
+
 pub returns-then-is_done-clause-told : goal.returns-then-is_done-clause-told
 returns-then-is_done-clause-told g c =
     subst
-    (λ (log : List LogRecord). c.catch_up-caught.new.tell.listeners ≡ told_of log c.catch_up-caught.result c.args.maps.now c.args.watchers.now.listeners)
+    (λ (log : List LogRecord). c.catch_up-caught.new.watchers.listeners ≡ told_of log c.catch_up-caught.result c.args.maps.now c.args.watchers.now.listeners)
     c.records-records.ensures.records c.catch_up-caught.ensures.told
 
 pub returns-clause-told : goal.returns-clause-told
 returns-clause-told g c =
     subst
-    (λ (log : List LogRecord). c.catch_up-caught.new.tell.listeners ≡ told_of log c.catch_up-caught.result c.args.maps.now c.args.watchers.now.listeners)
+    (λ (log : List LogRecord). c.catch_up-caught.new.watchers.listeners ≡ told_of log c.catch_up-caught.result c.args.maps.now c.args.watchers.now.listeners)
     c.records-records.ensures.records c.catch_up-caught.ensures.told
 
 -- the segment value is in hand
@@ -75,10 +87,10 @@ returns-then-is_done-clause-tied g c =
     let records = c.records-records.result.now in
     let up = c.catch_up-caught.ensures in
     let done : is_done caught ≡ true = sym c.is_done.ensures ∙ c.if-is_done.true in
-    subst (λ b. IsTied c.args.segs.now.log (new.own me) no_chunks b c.catch_up-caught.new.self) (done_joined c.args.joined (is_done caught) done)
-    (tied_by c.args.segs.now.log records (old.own me) (new.own me) no_chunks c.args.joined c.args.maps.now c.catch_up-caught.new.self caught
-    c.records-records.ensures.records (c.ack.ensures.own.own ∙ done_own caught (length records) (old.own me) done) c.requires.tied up.number
-    up.rows up.table up.chunks up.capacity)
+    subst (λ b. IsTied c.args.segs.now.log (new.own me) no_chunks b c.catch_up-caught.new.maps) (done_joined c.args.joined (is_done caught) done)
+    (tied_by c.args.segs.now.log records (old.own me) (new.own me) no_chunks c.args.joined c.args.maps.now c.catch_up-caught.new.maps caught
+    c.records-records.ensures.records (c.ack.ensures.own.own ∙ done_own caught (length records) (old.own me) done) c.requires.tied up.caught.number
+    up.caught.rows up.table up.chunks up.capacity)
 
 pub returns-then-is_done-clause-whole : goal.returns-then-is_done-clause-whole
 returns-then-is_done-clause-whole g c = λ done.
@@ -111,7 +123,7 @@ returns-clause-tied g c =
     let failed : is_done c.catch_up-caught.result ≡ false = sym c.is_done.ensures ∙ c.if-is_done.false in
     subst (λ b. IsTied log own no_chunks b c.empty.new.maps) (sym failed)
     (subst (λ (maps : MapsView). IsTied log own no_chunks false maps) (sym c.empty.ensures)
-    (emptied_tied log own c.catch_up-caught.new.self tied.within (omega (arith, room, capacity))))
+    (emptied_tied log own c.catch_up-caught.new.maps tied.within (omega (arith, room, capacity))))
 
 pub returns-clause-stays : goal.returns-clause-stays
 returns-clause-stays g c =

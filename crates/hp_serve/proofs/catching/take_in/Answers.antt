@@ -41,10 +41,22 @@ catch_up-caught-requires-clause-spare g c =
     let room = c.requires.room in
     omega (arith, told, room, ap length c.records-records.ensures.records)
 
+pub catch_up-caught-requires-clause-few : goal.catch_up-caught-requires-clause-few
+catch_up-caught-requires-clause-few g c =
+    let segs = c.args.segs.now in
+    let records = c.records-records.result.now in
+    let sound = c.records-records.ensures.sound in
+    let few : slots_in (places_of segs.pools) ≤ 16384 = omega (arith, c.log_law.ensures.few segs sound) in
+    let told =
+    tells_one_a_record (places_of segs.pools) c.args.maps.now records (length records) Done
+    (tied_can (places_of segs.pools) segs.log records ((g.H.Hall.state c.args.hall.now).own c.args.me) c.args.joined c.args.maps.now
+    c.records-records.ensures.records (c.log_law.ensures.placed segs sound) few c.requires.may.tied c.requires.may.calls) in
+    omega (arith, told, c.records-records.type_inv.1)
+
 pub returns-clause-told : goal.returns-clause-told
 returns-clause-told g c =
     subst
-    (λ (log : List LogRecord). c.catch_up-caught.new.tell.listeners ≡ told_of log c.catch_up-caught.result c.args.maps.now c.args.watchers.now.listeners)
+    (λ (log : List LogRecord). c.catch_up-caught.new.watchers.listeners ≡ told_of log c.catch_up-caught.result c.args.maps.now c.args.watchers.now.listeners)
     c.records-records.ensures.records c.catch_up-caught.ensures.told
 
 pub returns-clause-tied : goal.returns-clause-tied
@@ -55,9 +67,9 @@ returns-clause-tied g c =
     let old = g.H.Hall.state c.args.hall.now in
     let new = g.H.Hall.state c.tell_number.new.hall in
     tied_marks c.args.segs.now.log (new.own me) (marked_in me old) (marked_in me new) (c.args.joined || is_done c.catch_up-caught.result)
-    c.catch_up-caught.new.self (parts_marks c.tell_number.ensures.own.parts)
-    (tied_by c.args.segs.now.log records (old.own me) (new.own me) (marked_in me old) c.args.joined c.args.maps.now c.catch_up-caught.new.self
-    c.catch_up-caught.result c.records-records.ensures.records c.tell_number.ensures.own.own c.requires.may.tied up.number up.rows up.table up.chunks up.capacity)
+    c.catch_up-caught.new.maps (parts_marks c.tell_number.ensures.own.parts)
+    (tied_by c.args.segs.now.log records (old.own me) (new.own me) (marked_in me old) c.args.joined c.args.maps.now c.catch_up-caught.new.maps
+    c.catch_up-caught.result c.records-records.ensures.records c.tell_number.ensures.own.own c.requires.may.tied up.caught.number up.caught.rows up.table up.chunks up.capacity)
 
 pub returns-clause-did : goal.returns-clause-did
 returns-clause-did g c =

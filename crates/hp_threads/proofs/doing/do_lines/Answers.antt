@@ -131,3 +131,6 @@ returns g c =
 
 pub returns-in_err-push-clause-goes_on : goal.returns-in_err-push-clause-goes_on
 returns-in_err-push-clause-goes_on g c = g.met.H.Hall.goes_on_then _ _ _ c.loop-line.invariant.goes_on c.do_next.ensures.goes_on
+
+pub returns-in_err-answer-clause-goes_on : goal.returns-in_err-answer-clause-goes_on
+returns-in_err-answer-clause-goes_on g c = g.met.H.Hall.goes_on_then _ _ _ c.loop-line.invariant.goes_on c.do_next.ensures.goes_on

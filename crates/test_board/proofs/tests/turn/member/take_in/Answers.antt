@@ -62,7 +62,7 @@ returns-clause-done c = λ none.
     let caught = c.catch_up-caught.result in
     let came : CatchesUp c.args.segs.now.log old new caught =
     subst (λ (log : List LogRecord). CatchesUp log old new caught) c.records-records.ensures.records
-    (record { answered = up.answered; number = up.number; reason = up.reason; stays = up.may_fail }) in
+    (record { answered = up.answered; number = up.number; rows = up.rows; reason = up.reason; stays = up.may_fail }) in
     sym (mapped_number c.args.segs.now.log (own_of c.tell.new.seat.mine) no_chunks true old new caught came
     (tied_by c.args.segs.now.log records (own_of c.args.seat.now.mine) (own_of c.tell.new.seat.mine) no_chunks true old new caught c.records-records.ensures.records c.tell.ensures.own
     (holds_tied c.args.board.now.id c.args.segs.now c.args.seat.now old c.requires.holds) up.number up.rows up.table up.chunks up.capacity) none)
