@@ -119,4 +119,4 @@ module _ (me slot word : ℕ) (old : ChairView) (seat : SeatView) (its : me ≡ 
       (subst (IsAckedBy (acked_since_take old.steps)) (sym is)
       (λ number some. record { its = (was.acked number some).its; joins = (was.acked number some).joins }))
       was.places
-      (reader_after cells old new was.reads goes.opening refl (λ heap pair has. has))
+      (reader_after cells old new was.reads goes.opening refl (λ heap pair has. has) was.reads.read)

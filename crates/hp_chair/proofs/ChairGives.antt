@@ -428,4 +428,4 @@ module _ (me slot : ℕ) (kept : Kept) (board : BoardView) (boxes : List Mailbox
       (acked_step old.steps (Gives slot kept) after (subst (IsAckedBy (acked_after (acked_since_take old.steps) (Gives slot kept))) (sym is)
       (acked_given slot kept (acked_since_take old.steps) mine was.acked)))
       (places_still mine.who old.steps (Gives slot kept) boxes old.passes was.places (λ place. refl) refl)
-      (reader_step cells old new was.reads goes_given.opening refl (Gives slot kept) refl (give_tells slot kept))
+      (reader_step cells old new was.reads goes_given.opening refl (Gives slot kept) refl (give_tells slot kept) (λ heap. refl))

@@ -23,9 +23,11 @@ use Rattle.hp_stats.specs.StatViews as stats
 use Rattle.hp_stats.specs.StatViews.{seen_of}
 use Rattle.hp_stats.specs.declared.stat_pair.StatPair.{StatPair}
 use Rattle.hp_chair.specs.ChairView.{ChairView, greatest_count}
+use Rattle.hp_chair.specs.Publishing.{HasReadBy}
 use Rattle.hp_chair.specs.Steps.{told_in}
 use Rattle.hp_chair.specs.Places.{ArePlaces}
 use Rattle.hp_chair.proofs.ChairSteps.{GoesOn, count_on}
+use Rattle.hp_chair.proofs.PairsRead.{ShowsNothing, read_still}
 use Rattle.hp_chair.proofs.StepsOn.{IsQuiet, TellsNone, places_still, tied_still, told_push}
 
 -- what is in hand stays, what was seen, and whether the participant is in the roster
@@ -111,20 +113,23 @@ acked_step steps step mine by =
 -- what is shown stays after a step that reads and publishes nothing
 module _ (cells : List TableId) (old new : ChairView) (was : IsReader cells old) (opening : new.seat.mine.opening ≡ old.seat.mine.opening)
     (still : new.stats ≡ old.stats) where
-  pub reader_after : ((heap : ℕ) (pair : StatPair) → told_in heap new.steps ≡ Some pair → told_in heap old.steps ≡ Some pair) → IsReader cells new
-  reader_after told = record {
+  pub reader_after : ((heap : ℕ) (pair : StatPair) → told_in heap new.steps ≡ Some pair → told_in heap old.steps ≡ Some pair)
+      → HasReadBy new.steps old.stats → IsReader cells new
+  reader_after told read = record {
     many = was.many;
     opened = ap (λ (o : Opening). o.cells.value) opening ∙ was.opened;
     its = ap (λ (pass : stats.PassView). pass.cells) still ∙ was.its;
     long = ap (λ (pass : stats.PassView). length pass.seen) still ∙ was.long;
     told = λ heap pair is.
         subst (λ (pass : stats.PassView). pair.entries ≤ greatest_count (seen_of heap pass)) (sym still) (was.told heap pair (told heap pair is));
+    read = subst (HasReadBy new.steps) (sym still) read;
   }
 
-  pub reader_step : (step : MailStep) → new.steps ≡ old.steps ++ step ∷ [] → TellsNone step → IsReader cells new
-  reader_step step made tells =
+  pub reader_step : (step : MailStep) → new.steps ≡ old.steps ++ step ∷ [] → TellsNone step → ShowsNothing step → IsReader cells new
+  reader_step step made tells none =
       reader_after (λ heap pair is.
       tells heap (told_in heap old.steps) pair (sym (told_push heap old.steps step) ∙ (sym (ap (told_in heap) made) ∙ is)))
+      (subst (λ (steps : List MailStep). HasReadBy steps old.stats) (sym made) (read_still old.steps step old.stats none was.read))
 
 module _ (board : BoardView) (boxes : List MailboxView) (cells : List TableId) (old new : ChairView) (was : IsChair board boxes cells old)
     (sits : new.seat.board ≡ old.seat.board) (goes : GoesOn old.seat.mine new.seat.mine) (stay : new.boxes ≡ old.boxes) where

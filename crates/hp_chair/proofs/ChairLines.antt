@@ -129,7 +129,7 @@ module _ (me count : ℕ) (old : ChairView) (seat : SeatView) (its : me ≡ old.
       (hand_told old.seat.mine seat.mine count is)
       (acked_told old.seat.mine seat.mine count is (acked_since_take old.steps) was.acked)
       (reader_step cells old stored was.reads goes.opening refl (Notes (Stored count)) refl
-      (tells_none (Notes (Stored count)) (λ heap told. refl)))
+      (tells_none (Notes (Stored count)) (λ heap told. refl)) (λ heap. refl))
 
 -- it looked up how many lines a participant has told to be done
 module _ (me from count : ℕ) (old : ChairView) (seat : SeatView) (its : me ≡ old.seat.mine.who)
@@ -173,4 +173,4 @@ module _ (me from count : ℕ) (old : ChairView) (seat : SeatView) (its : me ≡
       chair_noted me (LoadedDone from count) (λ heap told. refl) old seat its declared
       (goes_found old.seat.mine seat.mine from count is own rises) (leaves_found old.seat.mine seat.mine from count is own) sits
       board boxes cells was (hand_found old.seat.mine seat.mine from count is own)
-      (acked_found old.seat.mine seat.mine from count is own (acked_since_take old.steps) was.acked)
+      (acked_found old.seat.mine seat.mine from count is own (acked_since_take old.steps) was.acked) (λ heap. refl)

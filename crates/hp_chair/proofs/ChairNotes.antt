@@ -20,6 +20,7 @@ use Rattle.hp_chair.specs.DoneBy.{IsDoneBy}
 use Rattle.hp_chair.proofs.ChairKept.{LeavesHand, chair_quiet, reader_step}
 use Rattle.hp_chair.proofs.ChairSteps.{ComesTo, DoesOne, GoesOn, LeavesSlots, MakesStep, comes_to, does_one, done_old, joined_old, mail_still}
 use Rattle.hp_chair.proofs.ChairTakes.{with_seat}
+use Rattle.hp_chair.proofs.PairsRead.{ShowsNothing}
 use Rattle.hp_chair.proofs.StepsOn.{LeavesTold, hand_held, quiet_note, tells_none}
 
 -- a seat that made no step, or one that leaves what it has in hand and what it has seen
@@ -80,10 +81,10 @@ module _ (me : ℕ) (note : Note) (untold : LeavesTold (Notes note)) (old : Chai
 
   pub chair_noted : (board : BoardView) (boxes : List MailboxView) (cells : List TableId) → IsChair board boxes cells old
       → LeavesHand old.seat.mine seat.mine → IsAckedBy (acked_after (acked_since_take old.steps) (Notes note)) seat.mine
-      → IsChair board boxes cells new
-  chair_noted board boxes cells was hand acked =
+      → ShowsNothing (Notes note) → IsChair board boxes cells new
+  chair_noted board boxes cells was hand acked none =
       chair_quiet board boxes cells old new was sits goes refl (Notes note) (quiet_note note) refl refl hand acked
-      (reader_step cells old new was.reads goes.opening refl (Notes note) refl (tells_none (Notes note) untold))
+      (reader_step cells old new was.reads goes.opening refl (Notes note) refl (tells_none (Notes note) untold) none)
 
 -- who has the segment value in hand by its steps holds its slot at the board
 pub may_ack : (me : ℕ) (board : BoardView) (boxes : List MailboxView) (cells : List TableId) (chair : ChairView) → me ≡ chair.seat.mine.who

@@ -1,6 +1,6 @@
 -- A hall opens over a seat that has made no move.
-use Rattle.std.proofs.Common.{◌≡◌, ℕ, ◌+◌, ◌<◌, ◌≤◌, Bool, true, false, eqb, eq-eqb, List, [], ◌∷◌, length, Option, Some, None, refl, sym, ap, subst, ◌∙◌, arith}
-use Rattle.std.specs.List.{slice_get}
+use Rattle.std.proofs.Common.{◌≡◌, ℕ, zero, suc, ◌+◌, ◌<◌, ◌≤◌, Bool, true, false, eqb, eq-eqb, List, [], ◌∷◌, length, map, Option, Some, None, refl, sym, ap, subst, ◌∙◌, arith}
+use Rattle.std.specs.List.{slice_get, slice_index_or}
 use Rattle.std.proofs.lemmas.Bool.{cond-true}
 use Rattle.std.proofs.lemmas.List.{length-map}
 use Rattle.hp_base.specs.declared.limits.TheConstants.{MAX_PARTICIPANTS}
@@ -11,6 +11,8 @@ use Rattle.hp_mail.specs.PassView.{MailboxView, PassView, new_pass}
 use Rattle.std.specs.Option.{is_some}
 use Rattle.hp_hall.specs.declared.slot.TheConstants.{NAMES_SLOT}
 use Rattle.hp_hall.specs.Measures.{counted, pause_measure}
+use Rattle.hp_hall.specs.Mail.{Notes}
+use Rattle.hp_hall.specs.declared.note.Note.TheVariants.{ReadStats}
 use Rattle.hp_hall.specs.declared.kept.Kept.{Kept}
 use Rattle.hp_board.specs.BoardView.{BoardView}
 use Rattle.hp_board.specs.SeatView.{SeatView}
@@ -19,7 +21,8 @@ use Rattle.hp_board.specs.declared.view.Mine.{Mine}
 use Rattle.hp_chair.specs.ChairInside.{AreHeld, IsAckedBy, IsChair}
 use Rattle.hp_chair.specs.ChairView.{opening_chair}
 use Rattle.hp_chair.specs.Places.{ArePlaces, IsPlace}
-use Rattle.hp_chair.specs.Publishing.{IsUnread}
+use Rattle.hp_chair.specs.FoundEmptyLaws.{nothing_among}
+use Rattle.hp_chair.specs.Publishing.{HasReadBy, IsUnread}
 use Rattle.hp_chair.specs.Steps.{told_in}
 use Rattle.hp_chair.proofs.ChairMail.{there_below, there_is}
 
@@ -33,6 +36,19 @@ none_acked mine number some = absurd (cc)
 
 abbrev nothing_seen : List StatPair
 nothing_seen = []
+
+-- by a new pass nothing was read of any heap
+unread_at : (heap : ℕ) (cells : List TableId) → slice_index_or (map (λ cell. nothing_seen) cells) heap [] ≡ []
+unread_at zero [] = refl
+unread_at (suc heap) [] = refl
+unread_at zero (cell ∷ cells) = refl
+unread_at (suc heap) (cell ∷ cells) = unread_at heap cells
+
+none_read : (cells : List TableId) (pass : stats.PassView) → pass ≡ stats.new_pass cells → HasReadBy [] pass
+none_read cells pass unread = record {
+  seen = λ heap. ap (λ (p : stats.PassView). slice_index_or p.seen heap nothing_seen) unread ∙ unread_at heap cells;
+  rising = λ first rest heap pair is. absurd (nothing_among first rest (Notes (ReadStats heap pair)) is);
+}
 
 none_told : (heap : ℕ) (pair : StatPair) → told_in heap [] ≡ Some pair → ⊥
 none_told heap pair is = cc
@@ -58,6 +74,7 @@ chair_opens board boxes cells seat passes pass its declared few count held moves
     its = ap (λ (p : stats.PassView). p.cells) unread.unread;
     long = ap (λ (p : stats.PassView). length p.seen) unread.unread ∙ length-map cells (λ cell. nothing_seen) ∙ unread.many;
     told = λ heap pair is. absurd (none_told heap pair is);
+    read = none_read cells pass unread.unread;
   };
 }
 

@@ -22,6 +22,7 @@ use Rattle.hp_chair.proofs.MailFetched.{mail_fetched, mail_posted, passes_placed
 use Rattle.hp_chair.proofs.MailRoom.{went_posted}
 use Rattle.hp_chair.proofs.SeatGoes.{goes_same, leaves_same}
 use Rattle.hp_chair.proofs.StepsDone.{IsBeside, before_same, beside_fetch, beside_post, done_beside}
+use Rattle.hp_chair.proofs.PairsRead.{ShowsNothing}
 use Rattle.hp_chair.proofs.StepsOn.{LeavesTold, tells_none, tied_still}
 
 -- the hall after a step that mailboxes show
@@ -59,15 +60,15 @@ module _ (me : ℕ) (old : ChairView) (board : BoardView) (boxes : List MailboxV
     stopped = λ has. has;
   }) (leaves_same old.seat.mine) untold refl
 
-  kept : (step : MailStep) → LeavesTold step → steps ≡ old.steps ++ step ∷ [] → IsTiedTo (old.steps ++ step ∷ []) old.seat.mine
+  kept : (step : MailStep) → LeavesTold step → ShowsNothing step → steps ≡ old.steps ++ step ∷ [] → IsTiedTo (old.steps ++ step ∷ []) old.seat.mine
       → IsAckedBy (acked_after (acked_since_take old.steps) step) old.seat.mine
       → ArePlaces old.seat.mine.who (old.steps ++ step ∷ []) boxes passes → IsChair board boxes cells new
-  kept step untold made tied acked places =
+  kept step untold none made tied acked places =
       chair_after board boxes cells old new was refl (goes_same old.seat.mine) refl was.held
       (subst (λ (l : List MailStep). IsTiedTo l old.seat.mine) (sym made) tied)
       (subst (λ (l : List MailStep). IsAckedBy (acked_since_take l) old.seat.mine) (sym made) (acked_step old.steps step old.seat.mine acked))
       (subst (λ (l : List MailStep). ArePlaces old.seat.mine.who l boxes passes) (sym made) places)
-      (reader_step cells old new was.reads refl refl step made (tells_none step untold))
+      (reader_step cells old new was.reads refl refl step made (tells_none step untold) none)
 
   module _ (to : ℕ) (frame : Frame) (action : Action) (posted : Posted) (made : steps ≡ old.steps ++ Posts to frame action posted ∷ []) where
     pub posts_one : IsAsPlanned (Posts to frame action posted) → full_mailboxes ≡ counted_on (full_of posted) old.full_mailboxes → to < length boxes
@@ -83,7 +84,7 @@ module _ (me : ℕ) (old : ChairView) (board : BoardView) (boxes : List MailboxV
 
     pub chair_posted : to < length boxes → HavePostedBy to frame posted old.passes passes → IsChair board boxes cells new
     chair_posted below by =
-        kept (Posts to frame action posted) (λ heap told. refl) made
+        kept (Posts to frame action posted) (λ heap told. refl) (λ heap. refl) made
         (tied_still old.steps (Posts to frame action posted) old.seat.mine old.seat.mine was.tied refl (λ slot value. refl) (λ naming. refl) refl refl)
         was.acked
         (places_posted old.seat.mine.who to old.steps frame action posted boxes old.passes passes was.places below by)
@@ -115,7 +116,7 @@ module _ (me : ℕ) (old : ChairView) (board : BoardView) (boxes : List MailboxV
     pub chair_fetched : ((pass : PassView) → slice_get old.passes me ≡ Some pass → HaveFetchedBy me frame old.passes passes pass) → IsChair board boxes cells new
     chair_fetched by =
         let here = fetched by in
-        kept (Fetches frame) (λ heap told. refl) made
+        kept (Fetches frame) (λ heap told. refl) (λ heap. refl) made
         (tied_still old.steps (Fetches frame) old.seat.mine old.seat.mine was.tied refl (λ slot value. refl) (λ naming. refl) refl refl)
         was.acked
         (places_fetched old.seat.mine.who old.steps frame boxes old.passes passes here.pass was.places here.within here.there here.by)

@@ -1,5 +1,5 @@
 -- A hall publishes statistics of a heap that its seat holds, or reads those of any.
-use Rattle.std.proofs.Common.{◌≡◌, ◌≢◌, ◌⊎◌, inl, inr, ⊎_elim, ℕ, suc, ◌<◌, ◌≤◌, eqb, eq-eqb, ne_eqb, List, [], ◌∷◌, ◌++◌, length, Option, Some, refl, sym, ap, subst, ◌∙◌, arith}
+use Rattle.std.proofs.Common.{◌≡◌, ◌≢◌, ◌⊎◌, inl, inr, ⊎_elim, ℕ, suc, ◌<◌, ◌≤◌, ◌==◌, if◌then◌else◌, eqb, eq-eqb, ne_eqb, List, [], ◌∷◌, ◌++◌, append-nil, length, Option, Some, refl, sym, ap, subst, ◌∙◌, arith}
 use Rattle.std.specs.List.{Contains}
 use Rattle.std.proofs.lemmas.Bool.{cases_eq, cond-false, cond-true}
 use Rattle.std.proofs.lemmas.List.{get_or-set_other, get_or-set_same, length-set}
@@ -28,13 +28,14 @@ use Rattle.hp_chair.specs.ChairCourse.{IsChairCourse}
 use Rattle.hp_chair.specs.ChairInside.{IsAckedBy, IsChair, IsReader}
 use Rattle.hp_chair.specs.ChairLaws.{greatest_front}
 use Rattle.hp_chair.specs.ChairView.{ChairView, chair_state, greatest_count, shown_of}
-use Rattle.hp_chair.specs.Steps.{told_after, told_in}
+use Rattle.hp_chair.specs.Steps.{pairs_at, pairs_in, told_after, told_in}
 use Rattle.hp_chair.proofs.ChairKept.{chair_quiet}
 use Rattle.hp_chair.proofs.ChairNotes.{hand_same}
 use Rattle.hp_chair.proofs.ChairSteps.{DoesOne, MakesStep, course_step, did_steps, does_one, joined_new, joined_old, lines_stay, mail_still, others_stay, own_new, own_old, part_new, part_old, part_stays, slots_stay, told_alike}
 use Rattle.hp_chair.proofs.SeatGoes.{goes_same, leaves_same}
 use Rattle.hp_chair.proofs.StepsDone.{IsBeside, before_same, beside_note, done_beside}
-use Rattle.hp_chair.proofs.StepsOn.{quiet_note, told_push}
+use Rattle.hp_chair.proofs.PairsRead.{rise_step}
+use Rattle.hp_chair.proofs.StepsOn.{flat_push, quiet_note, told_push}
 
 at_most : (n : ℕ) → n ≤ n
 at_most n = omega arith
@@ -64,6 +65,10 @@ greatest_most (first ∷ pairs) count below =
 -- the hall after a step that its pass shows
 abbrev pub with_stats : stats.PassView → List MailStep → ChairView → ChairView
 with_stats pass steps chair = record chair { stats = pass; steps = steps }
+
+-- the one pair that a note shows is this one, of the heap of that index
+abbrev ShowsPair : ℕ → StatPair → Note → Type 0
+ShowsPair index pair note = (heap : ℕ) → pairs_at heap (Notes note) ≡ if index == heap then pair ∷ [] else []
 
 -- what was published of heaps is as it was, but for the heap of an index that it may be this pair
 abbrev TellsPair : ℕ → StatPair → Note → Type 0
@@ -129,21 +134,43 @@ module _ (me index : ℕ) (pair : StatPair) (note : Note) (old : ChairView) (pas
       subst (λ (p : StatPair). p.entries ≤ shown_of heap new) now.1 (subst (λ (k : ℕ). pair.entries ≤ shown_of k new) (sym now.0) shown_least))
       tells
 
-  reads : TellsPair index pair note → IsReader cells new
-  reads tells = record {
+  -- what the pass has read and published is what the steps say, with that pair
+  shows : ShowsPair index pair note → (heap : ℕ) → seen_of heap pass ≡ pairs_in heap new.steps
+  shows says heap =
+      let pushed = flat_push (pairs_at heap) old.steps (Notes note) in
+      let before : List StatPair = pairs_in heap old.steps in
+      ⊎_elim
+      (λ (same : heap ≡ index).
+      let one : pairs_at heap (Notes note) ≡ pair ∷ [] =
+      says heap ∙ cond-true (eqb index heap) (pair ∷ []) [] (eq-eqb index heap (sym same)) in
+      subst (λ (k : ℕ). seen_of k pass ≡ seen_of k old.stats ++ pair ∷ []) (sym same) seen_here
+      ∙ ap (λ (l : List StatPair). l ++ pair ∷ []) (was.reads.read.seen heap)
+      ∙ ap (λ (l : List StatPair). before ++ l) (sym one) ∙ sym pushed)
+      (λ (apart : heap ≢ index).
+      let none : pairs_at heap (Notes note) ≡ [] =
+      says heap ∙ cond-false (eqb index heap) (pair ∷ []) [] (ne_eqb index heap (λ same. apart (sym same))) in
+      seen_else heap apart ∙ was.reads.read.seen heap ∙ sym (append-nil before) ∙ ap (λ (l : List StatPair). before ++ l) (sym none) ∙ sym pushed)
+      (cases_eq heap index)
+
+  reads : TellsPair index pair note → ShowsPair index pair note
+      → ((heap : ℕ) (other : StatPair) → Notes note ≡ Notes (ReadStats heap other) → IsNotBelow (pairs_in heap old.steps) other.entries)
+      → IsReader cells new
+  reads tells says rises = record {
     many = was.reads.many;
     opened = was.reads.opened;
     its = ap (λ (p : stats.PassView). p.cells) is ∙ was.reads.its;
     long = ap (λ (p : stats.PassView). length p.seen) is ∙ length-set old.stats.seen index (seen_of index old.stats ++ pair ∷ []) ∙ was.reads.long;
     told = λ heap other has.
         shown_told heap other (tells heap (told_in heap old.steps) other (sym (told_push heap old.steps (Notes note)) ∙ has));
+    read = record { seen = shows says; rising = rise_step old.steps (Notes note) was.reads.read.rising rises };
   }
 
-  kept_on : TellsPair index pair note → IsAckedBy (acked_after (acked_since_take old.steps) (Notes note)) old.seat.mine
-      → IsChair board boxes cells new
-  kept_on tells acked =
+  kept_on : TellsPair index pair note → ShowsPair index pair note
+      → ((heap : ℕ) (other : StatPair) → Notes note ≡ Notes (ReadStats heap other) → IsNotBelow (pairs_in heap old.steps) other.entries)
+      → IsAckedBy (acked_after (acked_since_take old.steps) (Notes note)) old.seat.mine → IsChair board boxes cells new
+  kept_on tells says rises acked =
       chair_quiet board boxes cells old new was refl (goes_same old.seat.mine) refl (Notes note) (quiet_note note) refl refl
-      (hand_same old.seat.mine) acked (reads tells)
+      (hand_same old.seat.mine) acked (reads tells says rises)
 
 -- what a hall has read
 pub record HasRead (me index : ℕ) (pair : StatPair) (old new : ChairView) : Type 0 where
@@ -179,8 +206,20 @@ module _ (me index : ℕ) (pair : StatPair) (old : ChairView) (pass : stats.Pass
         goes_on = one.goes_on;
       }
 
-  pub chair_read : IsChair board boxes cells read_view
-  chair_read = kept_on me index pair note_read old pass board boxes cells its was is below (λ heap told other has. inl has) was.acked
+  -- no pair that was read or published of that heap before has a greater count
+  rises_here : IsNotBelow (seen_of index old.stats) pair.entries → (heap : ℕ) (other : StatPair) → Notes note_read ≡ Notes (ReadStats heap other)
+      → IsNotBelow (pairs_in heap old.steps) other.entries
+  rises_here newest heap other same =
+      let heaps : index ≡ heap = cc in
+      let pairs : pair ≡ other = cc in
+      subst (λ (p : StatPair). IsNotBelow (pairs_in heap old.steps) p.entries) pairs
+      (subst (λ (k : ℕ). IsNotBelow (pairs_in k old.steps) pair.entries) heaps
+      (subst (λ (l : List StatPair). IsNotBelow l pair.entries) (was.reads.read.seen index) newest))
+
+  pub chair_read : IsNotBelow (seen_of index old.stats) pair.entries → IsChair board boxes cells read_view
+  chair_read newest =
+      kept_on me index pair note_read old pass board boxes cells its was is below (λ heap told other has. inl has) (λ heap. refl)
+      (rises_here newest) was.acked
 
 -- what a hall has published
 pub record HasTold (me index : ℕ) (kept after : Kept) (old new : ChairView) : Type 0 where
@@ -242,4 +281,6 @@ module _ (me index : ℕ) (kept after : Kept) (old : ChairView) (pass : stats.Pa
       }
 
   pub chair_told : IsChair board boxes cells told_view
-  chair_told = kept_on me index (pair_in kept) note_told old pass board boxes cells its was is below tells_pair was.acked
+  chair_told =
+      kept_on me index (pair_in kept) note_told old pass board boxes cells its was is below tells_pair (λ heap. refl)
+      (λ heap other same. absurd (cc)) was.acked

@@ -373,4 +373,4 @@ module _ (me slot : ℕ) (kept : Kept) (old : ChairView) (seat : SeatView) (its 
       (acked_late (acked_after (acked_since_take old.steps) (Takes slot kept))
       (acked_taken slot kept (acked_since_take old.steps) mine was.acked))))
       (places_still mine.who old.steps (Takes slot kept) boxes old.passes was.places (λ place. refl) refl)
-      (reader_step cells old new was.reads goes_taken.opening refl (Takes slot kept) refl (take_tells slot kept))
+      (reader_step cells old new was.reads goes_taken.opening refl (Takes slot kept) refl (take_tells slot kept) (λ heap. refl))

@@ -3,6 +3,7 @@ pub mod ChairSteps
 pub mod SeatGoes
 pub mod StepsOn
 pub mod StepsDone
+pub mod PairsRead
 pub mod LooksKept
 pub mod ChairKept
 pub mod ChairTakes

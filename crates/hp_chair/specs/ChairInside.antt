@@ -15,6 +15,7 @@ use Rattle.hp_board.specs.declared.view.Mine.{Mine}
 use Rattle.hp_stats.specs.declared.stat_pair.StatPair.{StatPair}
 use Rattle.hp_chair.specs.ChairView.{ChairView, shown_of}
 use Rattle.hp_chair.specs.Places.{ArePlaces}
+use Rattle.hp_chair.specs.Publishing.{HasReadBy}
 use Rattle.hp_chair.specs.Steps.{in_hand, moves_in, told_in}
 
 -- a value in hand, as it was taken, is one of its slot at the board and sound, a heap with the pen of its cell; a segment value has the
@@ -46,13 +47,15 @@ pub record HasAcked (mine : Mine) (number : ℕ) : Type 0 where
 abbrev pub IsAckedBy : Option ℕ → Mine → Type 0
 IsAckedBy acked mine = (number : ℕ) → acked ≡ Some number → HasAcked mine number
 
--- the pass is to the cells of all heaps, which are the board's; and what was published of a heap since it was taken was shown
+-- the pass is to the cells of all heaps, which are the board's; what was published of a heap since it was taken was shown; and the pass has
+-- read and published what the steps say
 pub record IsReader (cells : List TableId) (chair : ChairView) : Type 0 where
   pub many : length cells ≡ MAX_HEAPS
   pub opened : chair.seat.mine.opening.cells.value ≡ cells
   pub its : chair.stats.cells ≡ cells
   pub long : length chair.stats.seen ≡ MAX_HEAPS
   pub told : (heap : ℕ) (pair : StatPair) → told_in heap chair.steps ≡ Some pair → pair.entries ≤ shown_of heap chair
+  pub read : HasReadBy chair.steps chair.stats
 
 pub record IsChair (board : BoardView) (boxes : List MailboxView) (cells : List TableId) (chair : ChairView) : Type 0 where
   pub its : chair.seat.board ≡ board.id

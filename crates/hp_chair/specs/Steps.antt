@@ -6,7 +6,7 @@ use Rattle.hp_mail.specs.PassView.{copies}
 use Rattle.hp_hall.specs.Mail.{Fetches, Gives, MailStep, Notes, Posts, Takes}
 use Rattle.hp_hall.specs.declared.kept.Kept.{Kept}
 use Rattle.hp_hall.specs.declared.kept.Kept.TheVariants.{Heap}
-use Rattle.hp_hall.specs.declared.note.Note.TheVariants.{Published}
+use Rattle.hp_hall.specs.declared.note.Note.TheVariants.{Published, ReadStats}
 use Rattle.hp_stats.specs.declared.stat_pair.StatPair.{StatPair}
 use Rattle.hp_board.specs.declared.view.Move.{Move}
 use Rattle.hp_board.specs.declared.view.Move.TheVariants.{Took, Gave}
@@ -45,6 +45,16 @@ told_after heap told _ = told
 
 abbrev pub told_in : ℕ → List MailStep → Option StatPair
 told_in heap steps = fold (told_after heap) None steps
+
+-- the pair of a heap that a step published or read, where it did
+abbrev pub pairs_at : ℕ → MailStep → List StatPair
+pairs_at heap (Notes (Published index pair)) = if index == heap then pair ∷ [] else []
+pairs_at heap (Notes (ReadStats index pair)) = if index == heap then pair ∷ [] else []
+pairs_at heap _ = []
+
+-- all pairs of a heap that were published or read, in their order
+abbrev pub pairs_in : ℕ → List MailStep → List StatPair
+pairs_in heap steps = flat_map (pairs_at heap) steps
 
 -- the frames that a step brings into the mailbox of a participant, each as often as it came there
 abbrev pub posts_to : ℕ → MailStep → List Frame

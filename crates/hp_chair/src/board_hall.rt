@@ -3,7 +3,7 @@ ghost use Rattle.std.specs.Prelude.{◌≡◌, ◌<◌, ◌≤◌, [], length};
 ghost use Rattle.hp_base.specs.declared.limits.TheConstants.{MAX_PARTICIPANTS};
 ghost use Rattle.hp_chair.specs.ChairView.{opening_chair};
 ghost use Rattle.hp_chair.specs.Places.{ArePlaces, HasPasses};
-ghost use Rattle.hp_chair.specs.Publishing.{IsUnread};
+ghost use Rattle.hp_chair.specs.Publishing.{HasReadBy, IsUnread};
 ghost use Rattle.hp_chair.specs.Steps.{moves_in};
 
 mod calls;
@@ -123,6 +123,9 @@ impl<'a, C: Clock, R: Wait> BoardHall<'a, C, R> {
 
         // What each pass has posted and fetched is what the steps say too. There is a pass for each participant.
         ensures mail { HasPasses self.entry.seat.mine.who self.entry.seat.mine.opening.participants self.entry.steps result.1.items }
+
+        // What the pass to statistics has read and published is what they say, too.
+        ensures read { HasReadBy self.entry.steps result.2 }
     {
         let BoardHall {
             seat,

@@ -1,10 +1,9 @@
 -- What a course shows of its steps and values: what is read of a value and left by each give is left by the course.
 use Rattle.std.proofs.Common.{◌≡◌, ◌≢◌, ℕ, eqb, cond, Bool, true, false, true≢false, List, [], ◌∷◌, ◌++◌, length, map, set, Option, Some, None, refl, sym, ap, subst, ◌∙◌, ⊎_elim, arith}
-use Rattle.std.specs.List.{AllByRecursion, filter, fold, slice_get}
+use Rattle.std.specs.List.{AllByRecursion, filter, slice_get}
 use Rattle.std.specs.Option.{option_map}
 use Rattle.std.proofs.lemmas.Bool.{cases_eq, cond-true, eq-eqb}
-use Rattle.std.proofs.lemmas.List.{append-nil}
-use Rattle.std.proofs.lemmas.List.Sums.{fold-append}
+use Rattle.std.proofs.lemmas.List.{append-nil, append_assoc}
 use Rattle.std.proofs.lemmas.Option.{slice_get_within, same_Some}
 use Rattle.hp_base.specs.declared.limits.TheConstants.{MAX_HEAPS}
 use Rattle.hp_heap.specs.declared.entry.Entry.{Entry}
@@ -21,12 +20,12 @@ use Rattle.hp_zone.specs.declared.names.Names.{Names as NamesView}
 use Rattle.hp_plain.specs.Course.{IsCourse, IsLater}
 use Rattle.hp_plain.specs.CourseLaws.{AreSegsOf, IdleAddNoEntries, IdleStayInPlace, IsSoundAndArmed, MovesSound, RangesStay, SoloStepsAreItsOwn, UndeclaredDoNothing, ValuesStaySound}
 use Rattle.hp_plain.specs.HallView.{HallView, SlotView, history_in, segs_in, slot_at}
-use Rattle.hp_plain.specs.PlainPosts.{steps_of-append, undeclared}
-use Rattle.hp_plain.specs.UnderNames.{AreUnderNames, ShowsRanges, TakesNoNames}
+use Rattle.hp_plain.specs.PlainPosts.{undeclared}
+use Rattle.hp_plain.specs.UnderNames.{AreUnderNames, HaveNoNamesAtGives, ShowsRanges}
 use Rattle.hp_hall.specs.Later.{AreLaterNames}
 use Rattle.hp_plain.specs.Keeping.{AreSegsGivenBy, IsGivenBy, IsHeapGivenBy, IsKeptBy, ShowsValues, values_after, values_in}
 use Rattle.hp_hall.specs.Mail.{MailStep, Posts, Fetches, Takes, Gives, Notes, steps_of}
-use Rattle.hp_hall.specs.Telling.{has_names, names_after}
+use Rattle.hp_hall.specs.Telling.{has_names}
 use Rattle.hp_hall.specs.Values.{IsSoundKept, history_of}
 use Rattle.hp_plain.proofs.Given.{entries_of-append, entries_of-other}
 use Rattle.hp_plain.proofs.Slotted.{value_at, slice_get-set_other, slice_get-set_same}
@@ -112,17 +111,22 @@ module _ (who : ℕ) where
 abbrev ranges_of : Kept → Option (List ExternalRange)
 ranges_of kept = option_map (λ segs. segs.ranges) (segs_of kept)
 
--- external memory stays at a give of who has not the names in hand
-ranges_left : (maker slot : ℕ) (naming : Bool) (values : List Kept) (before kept : Kept) → IsGivenBy maker before kept → naming ≡ false
-    → ShowsRanges naming (Gives slot kept) values → slice_get values slot ≡ Some before → ranges_of kept ≡ ranges_of before
-ranges_left maker slot naming values before kept by none =
+-- external memory stays at a give of the segment value by who has not the names in hand, and at a give of another one
+ranges_left : (maker slot : ℕ) (naming : Bool) (values : List Kept) (before kept : Kept) → IsGivenBy maker before kept
+    → ((segs : SegsView) → kept ≡ Segments segs → naming ≡ false) → ShowsRanges naming (Gives slot kept) values
+    → slice_get values slot ≡ Some before → ranges_of kept ≡ ranges_of before
+ranges_left maker slot naming values before kept by =
     by_maker maker
-    (λ before kept. ShowsRanges naming (Gives slot kept) values → slice_get values slot ≡ Some before → ranges_of kept ≡ ranges_of before)
-    (λ before kept by shows there. refl) (λ before kept by shows there. ap Some (shows none before there)) (λ before kept by shows there. refl)
+    (λ before kept. ((segs : SegsView) → kept ≡ Segments segs → naming ≡ false) → ShowsRanges naming (Gives slot kept) values
+    → slice_get values slot ≡ Some before → ranges_of kept ≡ ranges_of before)
+    (λ before kept by none shows there. refl)
+    (λ before kept by none shows there. ap Some (shows (none kept refl) before there))
+    (λ before kept by none shows there. refl)
     before kept by
 
--- and at each step of such a one
-ranges_step : (who : ℕ) (naming : Bool) (step : MailStep) (values : List Kept) (number : ℕ) (before : Kept) → naming ≡ false
+-- and at each step that is no give of it by one who has them
+ranges_step : (who : ℕ) (naming : Bool) (step : MailStep) (values : List Kept) (number : ℕ) (before : Kept)
+    → ((slot : ℕ) (segs : SegsView) → step ≡ Gives slot (Segments segs) → naming ≡ false)
     → ShowsRanges naming step values → ShowsValues who step values → slice_get values number ≡ Some before
     → (kept : Kept) × (slice_get (values_after step values) number ≡ Some kept) × (ranges_of kept ≡ ranges_of before)
 ranges_step who naming (Posts to frame action posted) values number before none ranges shows there = (before, there, refl)
@@ -135,43 +139,35 @@ ranges_step who naming (Gives slot kept) values number before none ranges shows 
     let was : shows.before ≡ before = same_Some shows.before before (sym shows.there ∙ ap (slice_get values) (sym same) ∙ there) in
     let now : slice_get (set values slot kept) number ≡ Some kept =
     ap (slice_get (set values slot kept)) same ∙ slice_get-set_same values slot kept (slice_get_within values slot shows.before shows.there) in
-    (kept, now, ranges_left who slot naming values shows.before kept shows.by none ranges shows.there ∙ ap ranges_of was))
+    let own : (segs : SegsView) → kept ≡ Segments segs → naming ≡ false =
+    λ segs is. none slot segs (ap (λ (given : Kept). Gives slot given) is) in
+    (kept, now, ranges_left who slot naming values shows.before kept shows.by own ranges shows.there ∙ ap ranges_of was))
     (λ (apart : number ≢ slot). (before, slice_get-set_other values slot number kept apart ∙ there, refl))
     (cases_eq number slot)
 
--- who has not the names in hand has them in hand by a take of them alone
-named_by : (naming : Bool) (step : MailStep) → TakesNoNames step → naming ≡ false → names_after naming step ≡ false
-named_by naming (Posts to frame action posted) none was = was
-named_by naming (Fetches frame) none was = was
-named_by naming (Takes slot (Heap heap pen)) none was = was
-named_by naming (Takes slot (Segments segs)) none was = was
-named_by naming (Takes slot (Names names)) none was = absurd none
-named_by naming (Gives slot (Heap heap pen)) none was = was
-named_by naming (Gives slot (Segments segs)) none was = was
-named_by naming (Gives slot (Names names)) none was = refl
-named_by naming (Notes note) none was = was
+-- of a first step and the rest: its maker has not the names in hand where it gives the segment value, and so it is with the rest
+unnamed_here : (before : List (ℕ × MailStep)) (step : ℕ × MailStep) (steps : List (ℕ × MailStep)) → HaveNoNamesAtGives before (step ∷ steps)
+    → (slot : ℕ) (segs : SegsView) → step.1 ≡ Gives slot (Segments segs) → has_names (steps_of step.0 before) ≡ false
+unnamed_here before step steps apart slot segs is =
+    subst (λ (made : List (ℕ × MailStep)). has_names (steps_of step.0 made) ≡ false) (append-nil before)
+    (apart [] steps step.0 slot segs (ap (λ (made : MailStep). (step.0, made) ∷ steps) is))
 
-named_one : (own naming : Bool) (step : ℕ × MailStep) → TakesNoNames step.1 → naming ≡ false
-    → fold names_after naming (map (λ (s : ℕ × MailStep). s.1) (cond own (step ∷ []) [])) ≡ false
-named_one true naming step none was = named_by naming step.1 none was
-named_one false naming step none was = was
-
-unnamed_on : (who : ℕ) (before : List (ℕ × MailStep)) (step : ℕ × MailStep) → TakesNoNames step.1 → has_names (steps_of who before) ≡ false
-    → has_names (steps_of who (before ++ step ∷ [])) ≡ false
-unnamed_on who before step none was =
-    ap has_names (steps_of-append who before (step ∷ []))
-    ∙ fold-append names_after false (steps_of who before) (steps_of who (step ∷ []))
-    ∙ named_one (eqb step.0 who) (has_names (steps_of who before)) step none was
+unnamed_on : (before : List (ℕ × MailStep)) (step : ℕ × MailStep) (steps : List (ℕ × MailStep)) → HaveNoNamesAtGives before (step ∷ steps)
+    → HaveNoNamesAtGives (before ++ step ∷ []) steps
+unnamed_on before step steps apart = λ first rest who number segs is.
+    subst (λ (made : List (ℕ × MailStep)). has_names (steps_of who made) ≡ false) (sym (append_assoc before (step ∷ []) first))
+    (apart (step ∷ first) rest who number segs (ap (λ (more : List (ℕ × MailStep)). step ∷ more) is))
 
 ranges_kept : (count : ℕ) (before steps : List (ℕ × MailStep)) (old new : List Kept) → IsKeptBy count steps old new
-    → AreUnderNames before steps old → ((who : ℕ) → has_names (steps_of who before) ≡ false) → AllByRecursion (λ step. TakesNoNames step.1) steps
-    → (number : ℕ) (was kept : Kept) → slice_get old number ≡ Some was → slice_get new number ≡ Some kept → ranges_of kept ≡ ranges_of was
-ranges_kept count before [] old new by under none takes number was kept early late =
+    → AreUnderNames before steps old → HaveNoNamesAtGives before steps → (number : ℕ) (was kept : Kept) → slice_get old number ≡ Some was
+    → slice_get new number ≡ Some kept → ranges_of kept ≡ ranges_of was
+ranges_kept count before [] old new by under apart number was kept early late =
     ap ranges_of (same_Some kept was (sym late ∙ ap (λ (l : List Kept). slice_get l number) by ∙ early))
-ranges_kept count before (step ∷ steps) old new by under none takes number was kept early late =
-    let mid = ranges_step step.0 (has_names (steps_of step.0 before)) step.1 old number was (none step.0) under.0 by.0.shows early in
-    ranges_kept count (before ++ step ∷ []) steps (values_after step.1 old) new by.1 under.1
-    (λ who. unnamed_on who before step takes.0 (none who)) takes.1 number mid.0 kept mid.1 late
+ranges_kept count before (step ∷ steps) old new by under apart number was kept early late =
+    let mid = ranges_step step.0 (has_names (steps_of step.0 before)) step.1 old number was (unnamed_here before step steps apart) under.0
+    by.0.shows early in
+    ranges_kept count (before ++ step ∷ []) steps (values_after step.1 old) new by.1 under.1 (unnamed_on before step steps apart) number
+    mid.0 kept mid.1 late
     ∙ mid.2
 
 primary_steps : (count : ℕ) → count ≡ 1 → (steps : List (ℕ × MailStep)) (old new : List Kept) → IsKeptBy count steps old new
@@ -282,9 +278,9 @@ idle_stay_in_place old new course who idle before segs are =
     }
 
 pub ranges_stay : RangesStay
-ranges_stay old new course none takes before segs are =
+ranges_stay old new course apart before segs are =
     same_Some segs.ranges before.ranges
-    (ranges_kept (length old.owns) old.mail course.steps (values_in old) (values_in new) course.kept course.ranges none takes MAX_HEAPS
+    (ranges_kept (length old.owns) old.mail course.steps (values_in old) (values_in new) course.kept course.ranges apart MAX_HEAPS
     (Segments before) (Segments segs) (early old new course before segs are) (late old new course before segs are))
 
 pub values_stay_sound : ValuesStaySound

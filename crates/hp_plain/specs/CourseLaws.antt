@@ -1,6 +1,6 @@
 -- What a course of a hall of plain values shows of its steps and values, whichever calls were made: the rule "What a hall shows" of
 -- docs/HALLS.md.
-use Rattle.std.specs.Prelude.{◌≡◌, ℕ, ◌≤◌, false, [], Some, length, map, slice_get, ⊤}
+use Rattle.std.specs.Prelude.{◌≡◌, ℕ, ◌≤◌, [], Some, length, map, slice_get, ⊤}
 use Rattle.std.specs.List.{AllByRecursion}
 use Rattle.hp_base.specs.declared.limits.TheConstants.{MAX_HEAPS}
 use Rattle.hp_heap.specs.History.{entries_of}
@@ -16,9 +16,8 @@ use Rattle.hp_plain.specs.Course.{IsCourse}
 use Rattle.hp_plain.specs.HallView.{HallView, history_in, segs_in, slot_at}
 use Rattle.hp_segs.specs.Standing.{IsArmed}
 use Rattle.hp_plain.specs.Keeping.{values_in}
-use Rattle.hp_plain.specs.UnderNames.{TakesNoNames}
+use Rattle.hp_plain.specs.UnderNames.{HaveNoNamesAtGives}
 use Rattle.hp_hall.specs.Mail.{MailStep, Posts, Fetches, Takes, Gives, Notes, steps_of}
-use Rattle.hp_hall.specs.Telling.{has_names}
 
 -- who is not declared made no step
 abbrev pub UndeclaredDoNothing : Type 0
@@ -48,11 +47,10 @@ abbrev pub IdleStayInPlace : Type 0
 IdleStayInPlace = (old new : HallView) (course : IsCourse old new) (who : ℕ) → steps_of who course.steps ≡ []
     → (before segs : SegsView) → AreSegsOf old new before segs → IsLeftTo who before segs
 
--- a course on which nobody has the names in hand, neither from before nor by a take, leaves external memory as it was
+-- a course on which nobody gives the segment value with the names in hand leaves external memory as it was
 abbrev pub RangesStay : Type 0
-RangesStay = (old new : HallView) (course : IsCourse old new) → ((who : ℕ) → has_names (steps_of who old.mail) ≡ false)
-    → AllByRecursion (λ step. TakesNoNames step.1) course.steps → (before segs : SegsView) → AreSegsOf old new before segs
-    → segs.ranges ≡ before.ranges
+RangesStay = (old new : HallView) (course : IsCourse old new) → HaveNoNamesAtGives old.mail course.steps → (before segs : SegsView)
+    → AreSegsOf old new before segs → segs.ranges ≡ before.ranges
 
 -- a value is sound, and of a segment value the open growth and the kept asks are those of the armed
 abbrev pub IsSoundAndArmed : Kept → Type 0

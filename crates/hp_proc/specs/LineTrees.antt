@@ -1,5 +1,6 @@
 -- What each line of the language does, by what is known before it and by what it is handed: the rule "What each line does" of
--- docs/PARTICIPANTS.md. The lines that are implemented do today what `doing_of` says, which is the same but that no line is handed names yet.
+-- docs/PARTICIPANTS.md. The lines that are implemented do today what `doing_of` says: the same, but that of these only the line that asks
+-- for statistics reads the names.
 use Rattle.std.specs.Prelude.{◌≡◌, ◌⊎◌, ℕ, List, [], find, Option, Some, None, is_some, if◌then◌else◌}
 use Rattle.std.specs.Option.{option_to_list}
 use Rattle.hp_base.specs.Requests.{refusal_of}

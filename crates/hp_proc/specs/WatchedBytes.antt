@@ -34,8 +34,7 @@ pub record IsUnwatch (text : List ℕ) (course : Course) : Type 0 where
 
 -- a watcher was registered by a line of its participant, and by none unregistered since: its first table is the one that this had then, which
 -- lags behind the records that were there, and so has nothing of what the participant's later lines were granted; it has taken in what was
--- there when the participant had attached last and what its lines were granted by then, and no more than the table at the end, where there
--- is one
+-- there when the participant had attached last, and no more than the table at the end, where there is one
 pub record IsRegistered (who : ℕ) (opening : LinesLeft) (segs : SegsView) (courses : List Course) (table : Table) (listener : Listener)
     : Type 0 where
   pub place : ℕ
@@ -51,9 +50,14 @@ pub record IsRegistered (who : ℕ) (opening : LinesLeft) (segs : SegsView) (cou
   pub within : seen ≤ length segs.log
   pub lags : Lags segs.log number seen (table_in listener.since)
   pub since : (left_by opening (take place courses)).standing.records ≤ number
-  pub own : All (HasTakenGrant who (length (numbered_in (trace_of (take place courses)))) number) segs.asks
   pub beyond : All (HasLaterGrant who (length (numbered_in (trace_of (take place courses)))) seen) segs.asks
   pub until : table.joined ≡ true → number ≤ table.number
+
+-- and that table has taken in what the participant's lines were granted by then
+pub record IsRegisteredWithGrants (who : ℕ) (opening : LinesLeft) (segs : SegsView) (courses : List Course) (table : Table)
+    (listener : Listener) : Type 0 where
+  pub is : IsRegistered who opening segs courses table listener
+  pub own : All (HasTakenGrant who (length (numbered_in (trace_of (take is.place courses)))) is.number) segs.asks
 
 -- the watchers that a participant has at the end, by its own lines and by its table then: those that its lines left, in the
 -- order of their registration; and what each was told since then turns the bytes of the log's rows that were mapped at first into those that

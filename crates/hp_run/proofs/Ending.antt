@@ -37,7 +37,7 @@ use Rattle.hp_serve.specs.Party.{Party}
 use Rattle.hp_solo.specs.Ending.{AreThere, LeaveTables, LeaveWatchers, LeavesListeners, LeavesThere}
 use Rattle.hp_solo.specs.Solo.{SoloView, party_at}
 use Rattle.thm_run.specs.EndLaws.{EndsSo, IsAtEnd, IsGiven}
-use Rattle.thm_run.specs.Handing.{HaveWatchers, WatchersEndSo, listeners_in}
+use Rattle.thm_run.specs.Handing.{LeaveListeners, listeners_in}
 use Rattle.thm_run.specs.SoFar.{first_hall, first_names, first_segs}
 use Rattle.thm_run.proofs.HallFacts.HallEnds.{are_segs, out_many}
 use Rattle.thm_run.proofs.NamesStay.{opened_names}
@@ -179,15 +179,13 @@ module _ (workload : Workload) (answers : List Answer) (hall : SoloView) (done :
       ends_so tables law given sound leave =
           law workload done.courses answers done.parties hall.plain heaps segs tables given done.so_far (at_end tables sound leave)
 
-      -- each leaves the watchers of its lines
-      pub watched_so : (tables : List Table) (watchers : List WatchersView) → WatchersEndSo → IsGiven workload → IsHall hall.plain
-          → LeaveTables hall.servers tables → LeaveWatchers hall.servers watchers
-          → HaveWatchers workload done.courses segs tables (listeners_in watchers)
-      watched_so tables watchers law given sound leave leaves =
-          law workload done.courses answers done.parties hall.plain heaps segs tables (listeners_in watchers) given done.so_far
-          (at_end tables sound leave)
-          (length-map watchers (λ (own : WatchersView). own.listeners) ∙ leaves.count ∙ done.are.count)
-          (λ who party listeners there its.
-          let own = map_from watchers who listeners its in
-          listens_one _ party listeners (subst (LeavesListeners (party_at hall.servers who)) own.is (leaves.each who own.it own.there))
-          (party_there hall.servers done.parties done.are who ∙ there))
+      -- each leaves the watchers that it has
+      pub leave_listeners : (watchers : List WatchersView) → LeaveWatchers hall.servers watchers
+          → LeaveListeners done.parties (listeners_in watchers)
+      leave_listeners watchers leaves = record {
+        many = length-map watchers (λ (own : WatchersView). own.listeners) ∙ leaves.count ∙ done.are.count;
+        are = λ who party listeners there its.
+            let own = map_from watchers who listeners its in
+            listens_one _ party listeners (subst (LeavesListeners (party_at hall.servers who)) own.is (leaves.each who own.it own.there))
+            (party_there hall.servers done.parties done.are who ∙ there);
+      }

@@ -23,6 +23,7 @@ mod ProgramLemmas
 mod MadeLemmas
 mod SummaryLemmas
 mod WorkedFailures
+mod NamesInOrder
 mod Newcomers
 mod KitLemmas
 pub mod Crossing

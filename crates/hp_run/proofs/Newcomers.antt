@@ -1,17 +1,23 @@
 -- Participants of a run on threads before their first steps, each over its mapper, and the lines that they can do.
-use Rattle.std.proofs.Common.{◌≡◌, ◌∙◌, ℕ, zero, suc, ◌+◌, ◌<◌, List, [], ◌∷◌, ◌++◌, drop, get_or, length, length-append, map, Option, Some, refl, sym, ap, subst}
+use Rattle.std.proofs.Common.{◌≡◌, ◌∙◌, ℕ, zero, suc, ◌+◌, ◌<◌, List, [], ◌∷◌, ◌++◌, Bool, drop, get_or, length, length-append, map, Option, Some, refl, sym, ap, subst}
 use Rattle.std.specs.List.{slice_get}
 use Rattle.std.proofs.lemmas.List.{get_or_default}
 use Rattle.std.specs.Option.{option_map}
 use Rattle.std.proofs.lemmas.Option.{none-some, same_Some, slice_get-map}
 use Rattle.hp_base.specs.Mapping.{FailingCall}
+use Rattle.hp_base.specs.Telling.{Listener}
+use Rattle.hp_events.specs.declared.validator.Validator.{Validator}
 use Rattle.hp_script.specs.declared.workload.Workload.{Workload}
-use Rattle.hp_proc.specs.ParticipantView.{ParticipantView}
+use Rattle.hp_proc.specs.Contexts.{Context}
+use Rattle.hp_proc.specs.ParticipantView.{ParticipantView, knowing, participant_of}
+use Rattle.hp_serve.specs.Party.{Party}
+use Rattle.hp_serve.specs.Watched.{names_of}
 use Rattle.hp_threads.specs.Workers.{IsNewcomer}
 use Rattle.hp_threads.specs.Working.{CanBeDone}
 use Rattle.hp_solo.proofs.Pushed.{first_left}
 use Rattle.hp_run.specs.Apart.{AreBegunOver, IsBegunOver, IsPlannedNewcomer}
-use Rattle.hp_run.specs.Running.{IsRunnable}
+use Rattle.hp_run.specs.Opening.{IsPlannedParty}
+use Rattle.hp_run.specs.Running.{IsRunnable, taken_along}
 use Rattle.hp_run.proofs.Coming.{first_made}
 use Rattle.hp_run.proofs.NextLine.{line_can}
 
@@ -23,6 +29,17 @@ can_be_done workload runnable = record {
       line_can workload place (get_or workload.lines.items place line) runnable within
       (get_or_default workload.lines.items place line (get_or workload.lines.items place line) within);
   rising = runnable.lines.rising;
+}
+
+-- who goes by the plan, has no validator and knows what the workload says is a participant before its first step
+pub newcomer_is : (workload : Workload) (who : ℕ) (may_fail : Option (List FailingCall)) (party : Party) (validators : List (Validator Bool))
+    (context : Context) → IsPlannedParty workload who may_fail party → validators ≡ [] → context ≡ taken_along workload who []
+    → IsPlannedNewcomer workload who may_fail (participant_of party validators context)
+newcomer_is workload who may_fail party validators context planned none knows = record {
+  party = planned;
+  context = ap (λ (listeners : List Listener). knowing (names_of listeners) validators context) (ap (λ (one : Party). one.listeners) planned.is)
+      ∙ ap (λ (kept : List (Validator Bool)). knowing [] kept context) none
+      ∙ ap (λ (known : Context). knowing [] [] known) knows;
 }
 
 -- what holds of each place holds with one more after

@@ -73,6 +73,7 @@ module _ (workload : Workload) (mappers : List (Option (List FailingCall))) (fir
         → HaveStatistics ends.end.courses heaps → IsRunEnd workload mappers answers heaps segs tables (listeners_in watchers)
     threads_run_end watched statistics = record {
       end = ends.end;
+      handed_names = ends.handed_names;
       watched = watched;
       statistics = statistics;
       named = named;

@@ -13,10 +13,12 @@ use Rattle.hp_segs.specs.Moved.{Leads, SegsCall}
 use Rattle.hp_segs.specs.SegsView.{SegsView, is_retiring}
 use Rattle.hp_segs.specs.Sound.{IsSound}
 use Rattle.hp_proc.specs.Ends.{IsEnd, IsSoloEnd, OneThreadLeaves}
-use Rattle.hp_proc.specs.LinesDone.{courses_of}
+use Rattle.hp_proc.specs.Handed.{AreNamesHanded, names_shown}
+use Rattle.hp_proc.specs.LinesDone.{courses_of, trace_of}
+use Rattle.hp_proc.specs.SharedNames.{no_changes}
 use Rattle.thm_run.specs.Drops.{DropsComeFirst}
 use Rattle.thm_run.specs.Freed.{AreShown}
-use Rattle.thm_run.specs.Handing.{AreJudged, AreOfLinesBefore, HaveStatistics, HaveWatchers}
+use Rattle.thm_run.specs.Handing.{AreJudged, AreOfLinesBefore, HaveStatistics, HaveWatchers, WatchersHaveGrants}
 use Rattle.thm_run.specs.SoFar.{first_segs}
 use Rattle.thm_alike.specs.Alike.{PagesAlike, TablesAlike}
 use Rattle.thm_alike.specs.Restored.{FailuresLeaveNoRow, GrowthsRestore, TablesRestore}
@@ -69,6 +71,7 @@ pub record IsHeardEnd (workload : Workload) (answers : List Answer) (heaps : Lis
   pub drops : LosesNothing workload.plan.items → DropsComeFirst workload.participants segs.log segs.asks end.end.courses
   pub shown : AreShown segs.log segs.asks end.end.courses
   pub watched : HaveWatchers workload end.end.courses segs tables watchers
+  pub granted : WatchersHaveGrants workload end.end.courses segs tables watchers
   pub statistics : HaveStatistics end.end.courses heaps
   pub judged : AreJudged workload end.end.courses segs
   pub counted : AreOfLinesBefore workload end.end.courses
@@ -85,15 +88,16 @@ pub record HasRestored (workload : Workload) (segs : SegsView) (tables : List Ta
   pub growths : GrowthsRestore calls (first_segs workload)
   pub answering : TablesRestore segs.log tables
 
--- what a run has come to, in whatever order its participants' steps came: an end of the workload. Each participant has its watchers, each
--- told of its table; and each statistics that a line was answered are those of a front of the heap's history, with its own calls. A mapping
--- failed, for a growth or for a line that attaches, only where the plan or the mapper is why, and at no call twice; all who are attached
--- map what is in use alike, and a growth that failed left no row. An allocation that is answered that there is no memory found no address
--- in its heaps and was granted nothing (that it tried all of them, and all page sizes, is in what its line does); and a growth that failed
--- left all else as the other calls meanwhile would have left it
+-- what a run has come to, in whatever order its participants' steps came: an end of the workload. All names that lines read are those of the
+-- beginning, which no line that is built changes. Each participant has its watchers, each told of its table; and each statistics that a line
+-- was answered are those of a front of the heap's history, with its own calls. A mapping failed, for a growth or for a line that attaches, only
+-- where the plan or the mapper is why, and at no call twice; all who are attached map what is in use alike, and a growth that failed left no
+-- row. An allocation that is answered that there is no memory found no address in its heaps and was granted nothing (that it tried all of them,
+-- and all page sizes, is in what its line does); and a growth that failed left all else as the other calls meanwhile would have left it
 pub record IsRunEnd (workload : Workload) (mappers : List (Option (List FailingCall))) (answers : List Answer) (heaps : List HeapView)
     (segs : SegsView) (tables : List Table) (watchers : List (List Listener)) : Type 0 where
   pub end : IsEnd workload answers heaps segs tables
+  pub handed_names : (who : ℕ) → AreNamesHanded no_changes (names_shown no_changes (trace_of (courses_of who end.courses)))
   pub watched : HaveWatchers workload end.courses segs tables watchers
   pub statistics : HaveStatistics end.courses heaps
   pub named : AreNamed workload mappers answers segs
@@ -108,8 +112,8 @@ pub record IsRunEnd (workload : Workload) (mappers : List (Option (List FailingC
 -- given up has gone back, as its notice's outcome says, but for as many as the plan loses of its participant's notices; and where the plan
 -- loses no message, what lines gave up had gone before later lines saw the log. What lines see of the log never falls over all lines, with
 -- what the outcomes of their notices show: wherever one came that a run has gone back, there is a Drop of its own, which no earlier line
--- saw and every later one sees. No growth is granted that a validator denies which the lines before left, and statistics are those that the
--- lines before leave of the heap
+-- saw and every later one sees. The table of each watcher's registration has what its participant's lines were granted by then. No growth is
+-- granted that a validator denies which the lines before left, and statistics are those that the lines before leave of the heap
 pub record IsSoloRunEnd (workload : Workload) (mappers : List (Option (List FailingCall))) (answers : List Answer) (heaps : List HeapView)
     (segs : SegsView) (tables : List Table) (watchers : List (List Listener)) : Type 0 where
   pub run : IsRunEnd workload mappers answers heaps segs tables watchers
@@ -120,5 +124,6 @@ pub record IsSoloRunEnd (workload : Workload) (mappers : List (Option (List Fail
   pub notices : NoticesAreHeard workload.plan.items run.end.courses segs.asks
   pub drops : LosesNothing workload.plan.items → DropsComeFirst workload.participants segs.log segs.asks run.end.courses
   pub shown : AreShown segs.log segs.asks run.end.courses
+  pub granted : WatchersHaveGrants workload run.end.courses segs tables watchers
   pub judged : AreJudged workload run.end.courses segs
   pub counted : AreOfLinesBefore workload run.end.courses

@@ -8,7 +8,7 @@ use Rattle.hp_segs.specs.SegsView.{SegsView}
 use Rattle.hp_zone.specs.declared.names.Names.{Names as NamesView}
 use Rattle.thm_run.specs.SoFar.{first_names}
 
--- the names are those of the beginning, which no line that is built gives back, and agree with the heaps and with the external memory that is
+-- the names are those of the beginning, which no line that is built changes, and agree with the heaps and with the external memory that is
 -- claimed
 pub record AreLastNames (workload : Workload) (heaps : List HeapView) (segs : SegsView) (names : NamesView) : Type 0 where
   pub are : names ≡ first_names workload

@@ -1,5 +1,5 @@
 //! The answers of the lines so far.
-ghost use Rattle.std.specs.Prelude.{◌≡◌, ◌+◌, ◌<◌, ◌≤◌, ◌^◌, [], ◌∷◌, ◌++◌, Some, None, IfSome, IfOk, OnOk, length};
+ghost use Rattle.std.specs.Prelude.{◌≡◌, ◌+◌, ◌<◌, ◌≤◌, ◌^◌, [], ◌∷◌, ◌++◌, Some, None, IfSome, IfOk, OnErr, OnOk, length};
 ghost use Rattle.hp_run.specs.AnswersKept.{count_more, counts_more};
 
 use crate::answer_log::AnswerLog;
@@ -57,11 +57,12 @@ impl Told {
         }
     }
 
-    /// Takes the answer of an act in.
+    /// Takes the answer of an act in. It is refused only where answers are kept.
     pub fn push(&mut self, act: &Act<'_>, answer: Answer) -> Result<(), AllocError>
         requires room { length self.old.items + 1 < 2 ^ 64 }
         ensures items { OnOk result (self.new.items ≡ self.old.items ++ answer ∷ []) }
         ensures counts { OnOk result (self.new.counts ≡ counts_more self.old.counts act.now answer) }
+        ensures err { OnErr result (self.old.counts ≡ None) }
     {
         match &mut self.held {
             Held::Kept(kept) => kept.push(answer)?,

@@ -17,6 +17,7 @@ use Rattle.hp_script.specs.Limits.{AreDeclared}
 use Rattle.hp_script.specs.declared.answer.Answer.{Answer}
 use Rattle.hp_script.specs.declared.line.Line.{Line}
 use Rattle.hp_script.specs.declared.workload.Workload.{Workload}
+use Rattle.hp_stats.specs.StatViews as stats
 use Rattle.hp_weave.specs.Weaving.{woven}
 use Rattle.thm_run.proofs.HallFacts.HallHeaps.{all_from_places}
 use Rattle.thm_run.proofs.RunFacts.SoFarFacts.{at_place}
@@ -37,7 +38,7 @@ contains_at xs place x at = (place, slice_get_within xs place x at, at_or xs pla
 
 module _ (workload : Workload) (board : BoardView) (opened : board.opening.participants ≡ workload.participants)
     (firsts : List ParticipantView) (seats : List SeatView) (by : List (List Answer)) (tables : List Table) (watchers : List WatchersView)
-    (promised : AllHavePromised workload board firsts seats by tables watchers) where
+    (stat_passes : List stats.PassView) (promised : AllHavePromised workload board firsts seats by tables watchers stat_passes) where
   -- a participant's promise
   pub record IsPromised (who : ℕ) (seat : SeatView) : Type 0 where
     pub first : ParticipantView

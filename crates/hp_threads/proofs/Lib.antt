@@ -2,6 +2,7 @@ mod Crossing
 mod Dealt
 mod Homes
 mod Meetings
+mod Countings
 pub mod NextLines
 mod Opened
 mod OwnLines

@@ -9,6 +9,7 @@ use Rattle.std.proofs.lemmas.Option.{none-some, same_Some, slice_get-map, slice_
 use Rattle.atomic_table.specs.Seated.{TableId}
 use Rattle.hp_board.specs.BoardView.{BoardView}
 use Rattle.hp_board.specs.SeatView.{SeatView, new_seat}
+use Rattle.hp_chair.specs.Publishing.{HasReadBy}
 use Rattle.hp_events.specs.Watchers.{WatchersView}
 use Rattle.hp_hall.specs.Mail.{MailStep}
 use Rattle.hp_mail.specs.PassView.{MailboxView, PassView}
@@ -16,6 +17,8 @@ use Rattle.hp_maps.specs.declared.table.Table.{Table}
 use Rattle.hp_proc.specs.ParticipantView.{ParticipantView}
 use Rattle.hp_script.specs.declared.answer.Answer.{Answer}
 use Rattle.hp_script.specs.declared.workload.Workload.{Workload}
+use Rattle.hp_stats.specs.StatViews as stats
+use Rattle.thm_run.proofs.HallFacts.HallHeaps.{all_from_places}
 use Rattle.thm_run.proofs.RunFacts.SoFarFacts.{at_place}
 use Rattle.hp_threads.specs.Leaving.{CameHome, HasDoneAll, HasDoneUnlessStopped, HasWorked}
 use Rattle.hp_threads.specs.Meeting.{ArePassesOf, CanMeet, HaveMet}
@@ -27,8 +30,7 @@ use Rattle.hp_threads.specs.declared.working.Worked.{Worked}
 -- each worker keeps its promise, by its index
 abbrev pub KeepTheirs : Workload → List WorkerView → List Worked → Type 0
 KeepTheirs workload workers worked = (k : ℕ) (worker : WorkerView) (one : Worked) → k < length workers
-    → HasWorked workload (get_or workers k worker).doer (get_or workers k worker).seat (get_or worked k one).seat
-    (get_or workers k worker).passes (get_or worked k one).passes.items (get_or worked k one).done
+    → HasWorked workload (get_or workers k worker) (get_or worked k one)
 
 pub at_or : {A : Type 0} (xs : List A) (place : ℕ) (x d : A) → slice_get xs place ≡ Some x → get_or xs place d ≡ x
 at_or [] place x d at = absurd (none-some x at)
@@ -74,7 +76,8 @@ same_box passes before place pass same there =
 module _ (workload : Workload) (board : BoardView) (boxes : List MailboxView) (cells : List TableId) (workers : List WorkerView)
     (worked : List Worked) (are : AreWorkers workload board boxes cells workers) (long : length worked ≡ length workers)
     (keep : KeepTheirs workload workers worked) (all_passes : List (List PassView)) (seats : List SeatView) (by : List (List Answer))
-    (tables : List Table) (watchers : List WatchersView) (home : AreTakenApart worked all_passes seats by tables watchers) where
+    (tables : List Table) (watchers : List WatchersView) (stat_passes : List stats.PassView)
+    (home : AreTakenApart worked all_passes seats by tables watchers stat_passes) where
   abbrev pub begun : List ParticipantView
   begun = map (λ (w : WorkerView). w.doer) workers
 
@@ -84,7 +87,7 @@ module _ (workload : Workload) (board : BoardView) (boxes : List MailboxView) (c
     one : Worked
     at : slice_get workers who ≡ Some worker
     there : slice_get worked who ≡ Some one
-    has : HasWorked workload worker.doer worker.seat one.seat worker.passes one.passes.items one.done
+    has : HasWorked workload worker one
 
   kept_at : (who : ℕ) → who < length worked → HasKept who
   kept_at who within =
@@ -95,12 +98,9 @@ module _ (workload : Workload) (board : BoardView) (boxes : List MailboxView) (c
         one = one.it;
         at = worker.there;
         there = one.there;
-        has = subst (λ (w : WorkerView). HasWorked workload w.doer w.seat one.it.seat w.passes one.it.passes.items one.it.done)
-            (at_or workers who worker.it worker.it worker.there)
-            (subst
-            (λ (w : Worked). HasWorked workload (get_or workers who worker.it).doer (get_or workers who worker.it).seat w.seat
-            (get_or workers who worker.it).passes w.passes.items w.done)
-            (at_or worked who one.it one.it one.there) (keep who worker.it one.it (omega (arith, within, long))));
+        has = subst (λ (w : WorkerView). HasWorked workload w one.it) (at_or workers who worker.it worker.it worker.there)
+            (subst (λ (w : Worked). HasWorked workload (get_or workers who worker.it) w) (at_or worked who one.it one.it one.there)
+            (keep who worker.it one.it (omega (arith, within, long))));
       }
 
   -- and brought its passes home
@@ -189,7 +189,35 @@ module _ (workload : Workload) (board : BoardView) (boxes : List MailboxView) (c
             (subst (λ (s : SeatView). HasDoneUnlessStopped workload worker.doer s has.steps one.done) seat_is has.has));
       }
 
-  pub all_promised : HaveMet all_passes → AllHavePromised workload board begun seats by tables watchers
+  -- the pass to statistics that one brought home
+  pass_is : (who : ℕ) (kept : HasKept who) (pass : stats.PassView) → slice_get stat_passes who ≡ Some pass → kept.one.stats ≡ pass
+  pass_is who kept pass passed =
+      same_Some kept.one.stats pass
+      (sym (slice_get-map (λ (w : Worked). w.stats) worked who ∙ ap (option_map (λ (w : Worked). w.stats)) kept.there)
+      ∙ (ap (λ (all : List stats.PassView). slice_get all who) (sym home.stats_are) ∙ passed))
+
+  as_many_passes : length stat_passes ≡ length worked
+  as_many_passes = ap (λ (all : List stats.PassView). length all) home.stats_are ∙ length-map worked (λ (w : Worked). w.stats)
+
+  -- it is to the board's cells
+  pass_cells : (who : ℕ) (pass : stats.PassView) → slice_get stat_passes who ≡ Some pass → pass.cells ≡ board.opening.cells.value
+  pass_cells who pass passed =
+      let within : who < length worked = omega (arith, slice_get_within stat_passes who pass passed, as_many_passes) in
+      let kept = kept_at who within in
+      let unread = (are.each who kept.worker kept.at).seated.unread in
+      ap (λ (p : stats.PassView). p.cells) (sym (pass_is who kept pass passed))
+      ∙ (kept.has.cells ∙ (ap (λ (p : stats.PassView). p.cells) unread.unread ∙ sym unread.opened))
+
+  -- and by it was read and published what the steps say
+  pass_read : (who : ℕ) (is : (who < length worked) ⊎ (length worked ≤ who)) (pass : stats.PassView) → slice_get stat_passes who ≡ Some pass
+      → HasReadBy (its_steps who is) pass
+  pass_read who (inl within) pass passed =
+      let kept = kept_at who within in
+      subst (HasReadBy kept.has.steps) (pass_is who kept pass passed) kept.has.read
+  pass_read who (inr beyond) pass passed =
+      absurd (omega (arith, beyond, slice_get_within stat_passes who pass passed, as_many_passes))
+
+  pub all_promised : HaveMet all_passes → AllHavePromised workload board begun seats by tables watchers stat_passes
   all_promised met = record {
     begun = length-map workers (λ (w : WorkerView). w.doer) ∙ are.count;
     many =
@@ -203,5 +231,8 @@ module _ (workload : Workload) (board : BoardView) (boxes : List MailboxView) (c
         ∙ length-map worked (λ (w : Worked). watched_of w.done) ∙ long ∙ are.count;
     steps = λ who. its_steps who (cases_lt who (length worked));
     each = λ who. promised_at who (cases_lt who (length worked));
+    reading = as_many_passes ∙ long ∙ are.count;
+    cells = all_from_places (λ (pass : stats.PassView). pass.cells ≡ board.opening.cells.value) stat_passes pass_cells;
+    read = λ who. pass_read who (cases_lt who (length worked));
     met = met;
   }

@@ -128,8 +128,10 @@ acts_untold (Acts.attaches doer after taken caught tried) =
     let acks : List MailStep = acks_after caught (length taken.log) in
     let gives : List MailStep = gives_segments (after_attaching doer.party.me caught taken) ∷ [] in
     (tt, untold_both acks gives (acks_untold caught (length taken.log)) (tt, tt))
-acts_untold (Acts.detaches doer taken above) = (tt, (tt, (tt, tt)))
+acts_untold (Acts.detaches doer taken told above heard) = (tt, (tt, (tt, tt)))
 acts_untold (Acts.notes_left doer elements) = tt
+acts_untold (Acts.reads_names doer names) = (tt, (tt, tt))
+acts_untold (Acts.reads_stats doer heap pair) = (tt, tt)
 acts_untold (Acts.and_then hand between fin held more doer mid after first rest before late one two) =
     untold_both before late (acts_untold one) (acts_untold two)
 

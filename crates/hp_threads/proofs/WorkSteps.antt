@@ -192,6 +192,7 @@ module _ (workload : Workload) (me : ℕ) (courses : List Course) (first old new
                   (subst (λ (hand : Option ℕ). Acts from.count None hand does.held old (doer_at does.mid) it.trace it.steps)
                   (ap (λ (moment : Moment). moment.hand) (sym does.ended)) it.acts);
               ended = ap doer_at does.ended;
+              left = does.left;
               added = line_added;
             }));
         done = done_still workload more me new new is.others.later is.part (same_party new.party) refl refl line_done;

@@ -61,6 +61,38 @@ own_lines chair =
     (unwrap_or (option_map (λ (awaited : Awaited). awaited.lines) (value_of mine.who mine.awaited)) 0) (eq-eqb mine.who mine.who refl)
 
 module _ (a b : ChairView) (me : ℕ) (steps : List MailStep) (course : IsChairCourse a b) (did : Did me steps (chair_state a) (chair_state b))
+    where
+  -- the steps of its own participant are those that the hall went on by
+  own_steps : me ≡ a.seat.mine.who → course.steps ≡ steps
+  own_steps own =
+      let here = eq-eqb me a.seat.mine.who own in
+      let there = eq-eqb me b.seat.mine.who (own ∙ sym course.who) in
+      append_cancel_left a.steps course.steps steps
+      (sym course.made ∙ sym (cond-true (eqb me b.seat.mine.who) b.steps [] there)
+      ∙ did.made ∙ ap (λ (done : List MailStep). done ++ steps) (cond-true (eqb me a.seat.mine.who) a.steps [] here))
+
+  -- it has told of as many lines, where none of them told
+  own_told : me ≡ a.seat.mine.who → TellNothing steps → (chair_state b).lines me ≡ (chair_state a).lines me
+  own_told own none =
+      let here = eq-eqb me a.seat.mine.who own in
+      let there = eq-eqb me b.seat.mine.who (own ∙ sym course.who) in
+      let done : b.seat.mine.done ≡ a.seat.mine.done =
+      course.done.told
+      ∙ (ap (λ (steps : List MailStep). marks_by a.seat.mine [] steps ++ a.seat.mine.done) (own_steps own)
+      ∙ ap (λ (marks : List LinesDone). marks ++ a.seat.mine.done) (no_marks a.seat.mine [] steps none)) in
+      cond-true (eqb me b.seat.mine.who) (lines_of b.seat.mine.who b) 0 there
+      ∙ (own_lines b ∙ (ap told_last done ∙ sym (own_lines a)))
+      ∙ sym (cond-true (eqb me a.seat.mine.who) (lines_of a.seat.mine.who a) 0 here)
+
+  -- another one has told of none
+  other_told : me ≢ a.seat.mine.who → (chair_state b).lines me ≡ (chair_state a).lines me
+  other_told apart =
+      let here = ne_eqb me a.seat.mine.who apart in
+      let there = ne_eqb me b.seat.mine.who (λ same. apart (same ∙ course.who)) in
+      cond-false (eqb me b.seat.mine.who) (lines_of b.seat.mine.who b) 0 there
+      ∙ sym (cond-false (eqb me a.seat.mine.who) (lines_of a.seat.mine.who a) 0 here)
+
+module _ (a b : ChairView) (me : ℕ) (steps : List MailStep) (course : IsChairCourse a b) (did : Did me steps (chair_state a) (chair_state b))
     (heap : ℕ) where
   -- its own participant's
   own_added : me ≡ a.seat.mine.who → ((slot : ℕ) → (chair_state a).taken slot ≡ None)
@@ -68,38 +100,17 @@ module _ (a b : ChairView) (me : ℕ) (steps : List MailStep) (course : IsChairC
   own_added own free =
       let here = eq-eqb me a.seat.mine.who own in
       let there = eq-eqb me b.seat.mine.who (own ∙ sym course.who) in
-      let steps_are : course.steps ≡ steps =
-      append_cancel_left a.steps course.steps steps
-      (sym course.made ∙ sym (cond-true (eqb me b.seat.mine.who) b.steps [] there)
-      ∙ did.made ∙ ap (λ (done : List MailStep). done ++ steps) (cond-true (eqb me a.seat.mine.who) a.steps [] here)) in
       let none : hand_of a.seat.mine ≡ (λ slot. None) = λ i slot. (free slot) i in
       let made : made_in heap b.seat.mine ≡ made_in heap a.seat.mine ++ added_by heap steps =
       ap (values_of heap) course.done.made
       ∙ (values_of-append heap a.seat.mine.made (entries_by (hand_of a.seat.mine) course.steps)
       ∙ (ap (λ (hand : ℕ → Option Kept). made_in heap a.seat.mine ++ values_of heap (entries_by hand course.steps)) none
-      ∙ ap (λ (steps : List MailStep). made_in heap a.seat.mine ++ added_by heap steps) steps_are)) in
+      ∙ ap (λ (steps : List MailStep). made_in heap a.seat.mine ++ added_by heap steps) (own_steps a b me steps course did own))) in
       ap (λ (part : ℕ → HeapPart). (part heap).entries)
       (cond-true (eqb me b.seat.mine.who) (chair_part b) (λ heap. no_part) there)
       ∙ (made
       ∙ ap (λ (part : ℕ → HeapPart). (part heap).entries ++ added_by heap steps)
       (sym (cond-true (eqb me a.seat.mine.who) (chair_part a) (λ heap. no_part) here)))
-
-  -- and it has told of as many lines, where none of the steps told
-  own_told : me ≡ a.seat.mine.who → TellNothing steps → (chair_state b).lines me ≡ (chair_state a).lines me
-  own_told own none =
-      let here = eq-eqb me a.seat.mine.who own in
-      let there = eq-eqb me b.seat.mine.who (own ∙ sym course.who) in
-      let steps_are : course.steps ≡ steps =
-      append_cancel_left a.steps course.steps steps
-      (sym course.made ∙ sym (cond-true (eqb me b.seat.mine.who) b.steps [] there)
-      ∙ did.made ∙ ap (λ (done : List MailStep). done ++ steps) (cond-true (eqb me a.seat.mine.who) a.steps [] here)) in
-      let done : b.seat.mine.done ≡ a.seat.mine.done =
-      course.done.told
-      ∙ (ap (λ (steps : List MailStep). marks_by a.seat.mine [] steps ++ a.seat.mine.done) steps_are
-      ∙ ap (λ (marks : List LinesDone). marks ++ a.seat.mine.done) (no_marks a.seat.mine [] steps none)) in
-      cond-true (eqb me b.seat.mine.who) (lines_of b.seat.mine.who b) 0 there
-      ∙ (own_lines b ∙ (ap told_last done ∙ sym (own_lines a)))
-      ∙ sym (cond-true (eqb me a.seat.mine.who) (lines_of a.seat.mine.who a) 0 here)
 
   -- of another one there is nothing
   other_added : me ≢ a.seat.mine.who
@@ -124,6 +135,4 @@ chair_adds a b me steps course did free heap =
 pub chair_tells : TellsOnCourse IsChairCourse chair_state
 chair_tells a b me steps course did none =
     ⊎_elim (λ (own : me ≡ a.seat.mine.who). own_told a b me steps course did own none)
-    (λ (apart : me ≢ a.seat.mine.who).
-    cond-false (eqb me b.seat.mine.who) (lines_of b.seat.mine.who b) 0 (ne_eqb me b.seat.mine.who (λ same. apart (same ∙ course.who)))
-    ∙ sym (cond-false (eqb me a.seat.mine.who) (lines_of a.seat.mine.who a) 0 (ne_eqb me a.seat.mine.who apart))) (cases_eq me a.seat.mine.who)
+    (λ (apart : me ≢ a.seat.mine.who). other_told a b me steps course did apart) (cases_eq me a.seat.mine.who)

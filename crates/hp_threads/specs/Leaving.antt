@@ -5,6 +5,7 @@ use Rattle.hp_board.specs.SeatView.{SeatView}
 use Rattle.hp_board.specs.Views.{own_of}
 use Rattle.hp_chair.specs.DoneBy.{IsDoneBy}
 use Rattle.hp_chair.specs.Places.{HasPasses}
+use Rattle.hp_chair.specs.Publishing.{HasReadBy}
 use Rattle.hp_events.specs.Watchers.{WatchersView}
 use Rattle.hp_hall.specs.Mail.{MailStep}
 use Rattle.hp_mail.specs.PassView.{PassView}
@@ -18,7 +19,9 @@ use Rattle.hp_serve.specs.Tied.{IsTiedAs}
 use Rattle.hp_serve.specs.Watched.{names_of}
 use Rattle.hp_threads.specs.Working.{HasDoneLines, lines_for}
 use Rattle.hp_threads.specs.Works.{Works}
+use Rattle.hp_threads.specs.Workers.{WorkerView}
 use Rattle.hp_threads.specs.declared.working.Done.{Done}
+use Rattle.hp_threads.specs.declared.working.Worked.{Worked}
 
 -- the seat is the participant's, at the same board, and holds no slot; what it had in hand, took and gave there, made, saw of the names, and told
 -- and looked up of lines, and what its passes have posted and fetched, is what these steps say
@@ -54,10 +57,12 @@ abbrev pub HasDoneUnlessStopped : Workload → ParticipantView → SeatView → 
 HasDoneUnlessStopped workload first seat steps None = ⊤
 HasDoneUnlessStopped workload first seat steps (Some done) = HasDoneAll workload first seat steps done.answers done.table done.watchers
 
--- what a thread promises of its participant, whose passes are to the same mailboxes as before
-pub record HasWorked (workload : Workload) (first : ParticipantView) (old new : SeatView) (before passes : List PassView) (done : Option Done)
-    : Type 0 where
+-- what a thread promises of its participant, whose passes are to the same mailboxes as before, and to the same cells, by which it has read
+-- and published what its steps say
+pub record HasWorked (workload : Workload) (worker : WorkerView) (worked : Worked) : Type 0 where
   pub steps : List MailStep
-  pub home : CameHome old new passes steps
-  pub mailboxes : map (λ pass. pass.mailbox) passes ≡ map (λ pass. pass.mailbox) before
-  pub has : HasDoneUnlessStopped workload first new steps done
+  pub home : CameHome worker.seat worked.seat worked.passes.items steps
+  pub mailboxes : map (λ pass. pass.mailbox) worked.passes.items ≡ map (λ pass. pass.mailbox) worker.passes
+  pub cells : worked.stats.cells ≡ worker.stats.cells
+  pub read : HasReadBy steps worked.stats
+  pub has : HasDoneUnlessStopped workload worker.doer worked.seat steps worked.done

@@ -3,6 +3,7 @@ pub mod AddingLaws
 pub mod Dealing
 pub mod Leaving
 pub mod Meeting
+pub mod Counting
 pub mod Running
 pub mod Workers
 pub mod Working

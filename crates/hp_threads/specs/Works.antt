@@ -3,7 +3,7 @@ use Rattle.std.specs.Prelude.{◌≡◌, ℕ, ◌+◌, Bool, List, [], ◌∷◌
 use Rattle.hp_hall.specs.Mail.{MailStep, Notes}
 use Rattle.hp_hall.specs.declared.note.Note.TheVariants.{Stored}
 use Rattle.hp_proc.specs.Acting.{Acts}
-use Rattle.hp_proc.specs.Courses.{calls_in}
+use Rattle.hp_proc.specs.Courses.{after_line, calls_in}
 use Rattle.hp_proc.specs.Denying.{denials_of}
 use Rattle.hp_proc.specs.Histories.{entries_for}
 use Rattle.hp_proc.specs.LinesDone.{Course}
@@ -13,14 +13,15 @@ use Rattle.hp_serve.specs.Coordinating.{IsServed}
 use Rattle.hp_serve.specs.Party.{Party}
 use Rattle.hp_threads.specs.Adding.{added_by}
 
--- by these steps it did what a line's trace says, with heaps in its hand one after another, none of them twice, and then the line ended; and
--- what they added to each heap are the line's calls of that, numbered on after those before
+-- by these steps it did what a line's trace says, with heaps in its hand one after another, none of them twice, and then the line ended, of
+-- which it knows what that left; and what they added to each heap are the line's calls of that, numbered on after those before
 pub record DoesCourse (count : ℕ) (doer after : ParticipantView) (course : Course) (steps : List MailStep) : Type 0 where
   pub held : List ℕ
   pub once : AreOnce held
   pub mid : ParticipantView
   pub acts : Acts count None None held doer mid course.trace steps
   pub ended : after ≡ after_registering course.line.act course.answer mid
+  pub left : after.context.standing ≡ after_line course.line course.answer course.trace doer.context.standing
   pub added : (heap : ℕ) → added_by heap steps ≡ entries_for doer.party.me heap (doer.context.calls + 1) (calls_in course.trace)
 
 -- after its line it tells how many of its lines are done

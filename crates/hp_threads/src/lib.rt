@@ -3,6 +3,7 @@
 
 mod adding;
 mod answers;
+mod counting;
 mod dealing;
 mod doing;
 mod ended;

@@ -8,6 +8,7 @@ ghost use Rattle.hp_threads.specs.Workers.{AreFirstValues, AreWorkers, CanBeRun,
 ghost use Rattle.hp_threads.specs.Working.{CanBeDone};
 
 use crate::answers::Answers;
+use crate::counting::count_all;
 use crate::dealing::{Dealt, boxes_for, seated};
 use crate::ended::Ended;
 use crate::meeting::meet_all;
@@ -52,6 +53,7 @@ struct Returned {
     answers: Vec<Answers>,
     tables: Vec<Table>,
     watchers: Vec<Watchers>,
+    stats: Vec<StatPass>,
 }
 
 // A board for a workload, with a place for each of its participants.
@@ -95,7 +97,7 @@ struct Apart {
 // Takes what they have brought home apart. It is refused where one of them was refused memory.
 fn taken_apart(alloc: Global, worked: Vec<Worked>) -> Result<Apart, AllocError>
     ensures { IfOk result (λ apart. AreTakenApart worked.items apart.all_passes.items apart.home.seats.items apart.home.answers.items
-        apart.home.tables.items apart.home.watchers.items) }
+        apart.home.tables.items apart.home.watchers.items apart.home.stats.items) }
 {
     let mut worked = worked;
     let mut all_passes = Vec::with_capacity(alloc, worked.len())?;
@@ -103,12 +105,13 @@ fn taken_apart(alloc: Global, worked: Vec<Worked>) -> Result<Apart, AllocError>
     let mut answers = Vec::with_capacity(alloc, worked.len())?;
     let mut tables = Vec::with_capacity(alloc, worked.len())?;
     let mut watchers = Vec::with_capacity(alloc, worked.len())?;
+    let mut all_stats = Vec::with_capacity(alloc, worked.len())?;
     while !worked.is_empty() {
         let Worked {
             seat,
             passes,
+            stats,
             done,
-            ..
         } = worked.remove(0);
         let Some(told) = done else {
             return Err(AllocError);
@@ -118,12 +121,14 @@ fn taken_apart(alloc: Global, worked: Vec<Worked>) -> Result<Apart, AllocError>
         answers.push_reserved(told.answers);
         tables.push_reserved(told.table);
         watchers.push_reserved(told.watchers);
+        all_stats.push_reserved(stats);
     }
     let home = Returned {
         seats,
         answers,
         tables,
         watchers,
+        stats: all_stats,
     };
     Ok(Apart { all_passes, home })
 }
@@ -152,7 +157,7 @@ fn all_home<
     requires lines { CanBeDone workload.now.participants workload.now.lines.items }
     requires few { length workload.now.lines.items ≤ MAX_LINES }
     ensures { IfOk result (λ home. AllHavePromised workload.now board.now (map (λ worker. worker.doer) workers.entry.items)
-        home.seats.items home.answers.items home.tables.items home.watchers.items) }
+        home.seats.items home.answers.items home.tables.items home.watchers.items home.stats.items) }
 {
     let marks = Marks::new();
     let shared = Shared {
@@ -209,14 +214,16 @@ pub fn run_apart<
         answers,
         tables,
         watchers,
+        stats,
     } = all_home(rt, alloc, &board, &boxes, &cells, workload, workers, gate)?;
     let answers = woven(alloc, &workload.lines, &answers)?;
     let Closed {
         heaps,
+        pens,
         segs,
         names,
-        ..
     } = board.close(seats, pens);
+    count_all(rt, &cells, pens, stats);
     Ok(Ended {
         answers,
         heaps,

@@ -42,9 +42,7 @@ pub fn work_all<
 
     // Each keeps its promise.
     ensures each { IfOk result (λ all. (k : ℕ) (worker : WorkerView) (worked : Worked) → k < length workers.entry.items
-        → HasWorked workload.now (slice_index_or workers.entry.items k worker).doer (slice_index_or workers.entry.items k worker).seat
-        (slice_index_or all.items k worked).seat (slice_index_or workers.entry.items k worker).passes
-        (slice_index_or all.items k worked).passes.items (slice_index_or all.items k worked).done) }
+        → HasWorked workload.now (slice_index_or workers.entry.items k worker) (slice_index_or all.items k worked)) }
 {
     thread::map_vec(
         rt,
@@ -53,8 +51,7 @@ pub fn work_all<
             requires { OpensFor workload.now shared.board.now.opening
                 × ((who : ℕ) × IsWorker workload.now shared.board.now shared.boxes.now shared.cells.now who worker)
                 × CanBeDone workload.now.participants workload.now.lines.items × (length workload.now.lines.items ≤ MAX_LINES) }
-            ensures { HasWorked workload.entry.now worker.entry.doer worker.entry.seat result.seat worker.entry.passes result.passes.items
-                result.done }
+            ensures { HasWorked workload.entry.now worker.entry result }
         { work(rt, alloc, shared, gate, workload, worker) },
     )
 }

@@ -116,7 +116,7 @@ pub fn work<'p, M: Mapper, C: Clock, F: Decide + Copy + Drop, G: Gate, R: Wait>(
     requires worker { (who : ℕ) × IsWorker workload.now shared.board.now shared.boxes.now shared.cells.now who worker }
     requires lines { CanBeDone workload.now.participants workload.now.lines.items }
     requires few { length workload.now.lines.items ≤ MAX_LINES }
-    ensures { HasWorked workload.now worker.entry.doer worker.entry.seat result.seat worker.entry.passes result.passes.items result.done }
+    ensures { HasWorked workload.now worker.entry result }
 {
     let Worker {
         newcomer,

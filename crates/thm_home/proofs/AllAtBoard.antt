@@ -1,8 +1,11 @@
 -- Where threads leave something all came home.
 use Rattle.std.proofs.Common.{◌≡◌, ◌∙◌, ◌⊎◌, ℕ, zero, suc, ◌<◌, ◌≤◌, List, [], ◌∷◌, length, map, Some, inl, inr, slice_get, refl, ap, sym, subst, arith}
+use Rattle.std.specs.List.{All}
+use Rattle.std.specs.Option.{option_map}
 use Rattle.std.specs.Prelude.{Contains, slice_index_or}
 use Rattle.std.proofs.lemmas.Bool.{cases_lt}
-use Rattle.std.proofs.lemmas.Option.{same_Some, slice_get_within}
+use Rattle.std.proofs.lemmas.List.{length-map}
+use Rattle.std.proofs.lemmas.Option.{same_Some, slice_get-map, slice_get_within}
 use Rattle.hp_board.specs.SeatView.{SeatView}
 use Rattle.hp_chair.specs.Steps.{posted_to}
 use Rattle.hp_frame.specs.declared.frame.Frame.{Frame}
@@ -16,16 +19,24 @@ use Rattle.hp_script.specs.Limits.{AreDeclared}
 use Rattle.hp_script.specs.declared.answer.Answer.{Answer}
 use Rattle.hp_script.specs.declared.workload.Workload.{Workload}
 use Rattle.hp_segs.specs.SegsView.{SegsView}
+use Rattle.hp_serve.specs.Party.{Party}
 use Rattle.hp_zone.specs.declared.names.Names.{Names as NamesView}
-use Rattle.hp_proc.specs.LinesDone.{Course}
+use Rattle.hp_proc.specs.Handed.{AreNamesHanded, names_shown}
+use Rattle.hp_proc.specs.Handing.{shared_of}
+use Rattle.hp_proc.specs.LinesDone.{Course, trace_of}
 use Rattle.hp_proc.specs.ParticipantView.{ParticipantView}
+use Rattle.hp_proc.specs.SharedNames.{no_changes}
 use Rattle.hp_weave.specs.Weaving.{woven}
 use Rattle.thm_run.proofs.PathSteps.Walked.{get_there}
 use Rattle.thm_run.specs.EndLaws.{IsGiven}
+use Rattle.thm_run.specs.Handing.{listeners_in}
 use Rattle.thm_run.specs.Seats.{Seat}
 use Rattle.thm_run.specs.SoFar.{first_names}
 use Rattle.hp_threads.specs.Running.{HasPromised, ThreadsLeave, answers_of}
-use Rattle.thm_moved.proofs.HomeAtBoard.{home_at_board, names_stay_at_board}
+use Rattle.thm_together.specs.Watched.{AreToldInSeats}
+use Rattle.thm_moved.proofs.HomeAtBoard.{home_at_board}
+use Rattle.thm_moved.proofs.NamesAtBoard.{names_read_at_board, names_stay_at_board}
+use Rattle.thm_moved.proofs.NamesShown.{IsThese, these_handed}
 use Rattle.thm_moved.specs.AtBoard.{AllCameToTheirSeats, CameToItsSeat}
 use Rattle.thm_home.proofs.ThreadsHome.{came_to_it, on}
 use Rattle.thm_home.proofs.ThreadsMail.{index_there, posted_at}
@@ -172,7 +183,7 @@ module _ (workload : Workload) (firsts : List ParticipantView) (answers : List A
       (λ who below. told_steps who (cases_lt who count) below) 0 given.primary frame among in
       (its.0, its.2)
 
-  all : AllCameToTheirSeats workload answers heaps segs tables
+  pub all : AllCameToTheirSeats workload answers heaps segs tables
   all = record {
     given = given;
     built = built;
@@ -205,6 +216,11 @@ module _ (workload : Workload) (firsts : List ParticipantView) (answers : List A
         ∙ ap (woven (map (λ line. line.participant) workload.lines.items)) (λ i who. answers_by who (cases_lt who count) i);
   }
 
+  -- the steps of who is there are those that it promised
+  pub steps_promised : (who : ℕ) → who < count → all.steps who ≡ leave.promised.steps who
+  unfolding all
+  steps_promised who below = told_steps who (cases_lt who count) below
+
   -- each began in the seat of the view that it brought
   began_in : (who : ℕ) (first : ParticipantView) (is : (who < count) ⊎ (count ≤ who)) → who < count → slice_get firsts who ≡ Some first
       → (told_of who is).first.party ≡ first.party
@@ -213,6 +229,20 @@ module _ (workload : Workload) (firsts : List ParticipantView) (answers : List A
       let its = place who below in
       ap (λ (view : ParticipantView). view.party) (same_Some its.first first (sym its.brought ∙ brought))
   began_in who first (inr beyond) there brought = absurd (omega (arith, beyond, there))
+
+  -- and each ended with the watchers that it left
+  watched_in : (who : ℕ) (heard : WatchersView) (is : (who < count) ⊎ (count ≤ who)) → who < count → slice_get watchers who ≡ Some heard
+      → heard.listeners ≡ (told_of who is).last.party.listeners
+  unfolding told_of
+  watched_in who heard (inl below) there left =
+      let its = place who below in
+      let on_its_way =
+      on workload firsts answers heaps segs names tables watchers given leave who below its.first its.seat its.passes
+      (leave.promised.steps who) its.its its.table its.heard its.sat (promise who its) in
+      ap (λ (view : WatchersView). view.listeners) (same_Some heard its.heard (sym left ∙ its.watched))
+      ∙ (promise who its).has.watched.heard
+      ∙ ap (λ (party : Party). party.listeners) (sym on_its_way.party)
+  watched_in who heard (inr beyond) there left = absurd (omega (arith, beyond, there))
 
 pub home_of_threads : HomeOfThreads
 unfolding all
@@ -229,6 +259,33 @@ home_of_threads workload firsts answers heaps segs names tables watchers given b
           below brought;
     }
 
+-- the watchers that they left are those of the seats in which they ended
+pub watched_in_seats : (workload : Workload) (firsts : List ParticipantView) (answers : List Answer) (heaps : List HeapView) (segs : SegsView)
+    (names : NamesView) (tables : List Table) (watchers : List WatchersView) (given : IsGiven workload) (built : IsBuilt workload)
+    (declared : AreDeclared workload.participants workload.lines.items)
+    (leave : ThreadsLeave workload firsts answers heaps segs names tables watchers)
+    → AreToldInSeats (home_of_threads workload firsts answers heaps segs names tables watchers given built declared leave).home.last
+    (listeners_in watchers)
+unfolding home_of_threads all
+watched_in_seats workload firsts answers heaps segs names tables watchers given built declared leave =
+    let so = home_at_board workload answers heaps segs tables
+    (all workload firsts answers heaps segs names tables watchers given built declared leave) in
+    record {
+      many = length-map watchers (λ (own : WatchersView). own.listeners)
+          ∙ (leave.promised.watched ∙ sym (so.home.count ∙ so.home.begun));
+      are = λ who seat listeners there heard.
+          let within = slice_get_within so.home.last who seat there in
+          let below : who < workload.participants = omega (arith, within, so.home.count, so.home.begun) in
+          let its = get_there watchers who (omega (arith, below, leave.promised.watched)) in
+          same_Some listeners its.0.listeners
+          (sym heard
+          ∙ (slice_get-map (λ (own : WatchersView). own.listeners) watchers who
+          ∙ ap (option_map (λ (own : WatchersView). own.listeners)) its.1))
+          ∙ watched_in workload firsts answers heaps segs names tables watchers given built declared leave who its.0
+          (cases_lt who workload.participants) below its.1
+          ∙ ap (λ (seat : Seat). seat.party.listeners) (sym (so.ended who seat there));
+    }
+
 -- and the names are those of the beginning
 pub names_of_threads : (workload : Workload) (firsts : List ParticipantView) (answers : List Answer) (heaps : List HeapView) (segs : SegsView)
     (names : NamesView) (tables : List Table) (watchers : List WatchersView) → IsGiven workload → IsBuilt workload
@@ -239,3 +296,19 @@ names_of_threads workload firsts answers heaps segs names tables watchers given 
     names_stay_at_board workload answers heaps segs tables
     (all workload firsts answers heaps segs names tables watchers given built declared leave)
     ∙ leave.opens.names
+
+-- so are those that lines read
+pub names_read_of_threads : (workload : Workload) (firsts : List ParticipantView) (answers : List Answer) (heaps : List HeapView)
+    (segs : SegsView) (names : NamesView) (tables : List Table) (watchers : List WatchersView) (given : IsGiven workload)
+    (built : IsBuilt workload) (declared : AreDeclared workload.participants workload.lines.items)
+    (leave : ThreadsLeave workload firsts answers heaps segs names tables watchers) (who : ℕ)
+    → AreNamesHanded no_changes (names_shown no_changes (trace_of
+    ((home_of_threads workload firsts answers heaps segs names tables watchers given built declared leave).home.courses who)))
+unfolding home_of_threads all
+names_read_of_threads workload firsts answers heaps segs names tables watchers given built declared leave who =
+    let at = all workload firsts answers heaps segs names tables watchers given built declared leave in
+    let so = home_at_board workload answers heaps segs tables at in
+    subst (λ (courses : ℕ → List Course). AreNamesHanded no_changes (names_shown no_changes (trace_of (courses who)))) (sym so.courses_are)
+    (these_handed no_changes (names_shown no_changes (trace_of (at.courses who)))
+    (subst (λ (names : NamesView). All (IsThese (shared_of names)) (names_shown no_changes (trace_of (at.courses who)))) leave.opens.names
+    (names_read_at_board workload answers heaps segs tables at who)))

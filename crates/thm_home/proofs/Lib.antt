@@ -3,3 +3,13 @@ pub mod ThreadsEnded
 pub mod ThreadsHome
 pub mod ThreadsMail
 pub mod WaysOfWorks
+pub mod WatchersHome
+pub mod BesideHeap
+pub mod ActsApart
+pub mod ActsSplit
+pub mod GivenFronts
+pub mod ReadPlaces
+pub mod WayReads
+pub mod StatsHanded
+pub mod StatsAtBoard
+pub mod ThreadsStats

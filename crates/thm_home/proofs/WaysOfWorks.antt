@@ -103,6 +103,7 @@ works_way {count} (Works.does doer mid after courses course steps more works did
       on = subst (λ (after : ParticipantView). IsOnItsWay count (first_seat doer) after (courses ++ course ∷ []) (steps ++ (more ++ noted)))
           (sym did.ended)
           (line_on_its_way count (first_seat doer) mid did.mid courses course steps more did.held
-          (Stored (length courses + 1) ∷ []) few was.on did.acts did.once its);
+          (Stored (length courses + 1) ∷ []) few was.on did.acts did.once
+          (sym (ap (λ (doer : ParticipantView). doer.context.standing) did.ended) ∙ did.left) its);
       counted = omega (arith, same, made, before, all);
     }

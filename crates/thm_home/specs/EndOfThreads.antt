@@ -20,8 +20,10 @@ use Rattle.hp_segs.specs.declared.ask.Ask.{Ask}
 use Rattle.hp_segs.specs.declared.outcome.AskLog.{AskLog}
 use Rattle.hp_zone.specs.declared.names.Names.{Names as NamesView}
 use Rattle.hp_proc.specs.Ends.{IsEnd}
-use Rattle.hp_proc.specs.LinesDone.{Course, courses_of}
+use Rattle.hp_proc.specs.Handed.{AreNamesHanded, names_shown}
+use Rattle.hp_proc.specs.LinesDone.{Course, courses_of, trace_of}
 use Rattle.hp_proc.specs.ParticipantView.{ParticipantView}
+use Rattle.hp_proc.specs.SharedNames.{no_changes}
 use Rattle.thm_run.specs.EndLaws.{FailsFor, IsFailedMapping, IsGiven, IsRefusedAttach}
 use Rattle.thm_run.specs.Handing.{HaveStatistics, HaveWatchers, listeners_in}
 use Rattle.thm_run.specs.Seats.{Seat}
@@ -58,15 +60,17 @@ pub record FailAsBrought (firsts : List ParticipantView) (courses : List Course)
       → place ≡ other
 
 -- What participants leave that began so and did their lines on threads: an end of the workload, with the names of its beginning, which no
--- line that is built gives back, and which agree with the heaps and with the claimed external memory. Mappings failed only as the mappers may that they brought; all who are attached map what is in use alike,
--- each page of a heap with it, and a growth that failed left no row; a line that is answered that there is no memory found no address in its
--- heaps and was granted nothing; and the segment value came about by calls, each under its condition, among which each growth that failed
--- left all else as the other calls meanwhile would have left it, in the tables too.
+-- line that is built changes, so all that lines read of them are these; they agree with the heaps and with the claimed external memory. Mappings
+-- failed only as the mappers may that they brought; all who are attached map what is in use alike, each page of a heap with it, and a growth that
+-- failed left no row; a line that is answered that there is no memory found no address in its heaps and was granted nothing; and the segment
+-- value came about by calls, each under its condition, among which each growth that failed left all else as the other calls meanwhile would have
+-- left it, in the tables too.
 pub record ThreadsEnd (workload : Workload) (firsts : List ParticipantView) (answers : List Answer) (heaps : List HeapView) (segs : SegsView)
     (names : NamesView) (tables : List Table) : Type 0 where
   pub named : names ≡ first_names workload
   pub names_agree : AreAgreedNames names (left_naming heaps) segs.ranges
   pub end : IsEnd workload answers heaps segs tables
+  pub handed_names : (who : ℕ) → AreNamesHanded no_changes (names_shown no_changes (trace_of (courses_of who end.courses)))
   pub failed : FailAsBrought firsts end.courses segs.asks
   pub alike : TablesAlike segs tables
   pub pages : PagesAlike heaps segs tables

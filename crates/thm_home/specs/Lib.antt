@@ -1,1 +1,2 @@
 pub mod EndOfThreads
+pub mod StatsOfThreads

@@ -1,32 +1,28 @@
 -- Participants that came home to their seats at a board came home, with all that the board handed out.
-use Rattle.std.proofs.Common.{◌≡◌, ◌∙◌, ℕ, ◌+◌, ◌<◌, ◌≤◌, List, [], length, map, None, Some, slice_get, ⊎_elim, refl, ap, sym, subst, arith}
-use Rattle.std.specs.List.{All, range_with_len}
+use Rattle.std.proofs.Common.{◌≡◌, ◌∙◌, ℕ, ◌+◌, ◌<◌, ◌≤◌, List, [], length, map, Some, slice_get, ⊎_elim, refl, ap, sym, subst, arith}
+use Rattle.std.specs.List.{range_with_len}
 use Rattle.std.specs.Option.{option_map}
 use Rattle.std.specs.Prelude.{Contains}
 use Rattle.std.proofs.lemmas.Bool.{cases_lt}
 use Rattle.std.proofs.lemmas.List.{length-map}
 use Rattle.std.proofs.lemmas.List.FromFn.{get_or-range_with_len, length-range_with_len}
-use Rattle.std.proofs.lemmas.List.Elements.{All-nil}
 use Rattle.std.proofs.lemmas.Option.{same_Some, slice_get-get_or, slice_get-map, slice_get_within}
 use Rattle.hp_base.specs.declared.limits.TheConstants.{MAX_HEAPS}
-use Rattle.hp_board.proofs.KeptAt.{names_kept, segs_kept}
+use Rattle.hp_board.proofs.KeptAt.{segs_kept}
 use Rattle.hp_board.specs.Closing.{HandedOut, IsLeftIn, handed_out}
-use Rattle.hp_board.specs.MovesKept.{OpensWith, all_free, holds_in}
+use Rattle.hp_board.specs.MovesKept.{OpensWith, all_free}
 use Rattle.hp_board.specs.SeatView.{SeatView}
 use Rattle.hp_board.specs.Views.{values_of}
 use Rattle.hp_board.specs.declared.opening.Opening.{Opening}
-use Rattle.hp_board.specs.declared.view.Move.{Move}
 use Rattle.hp_chair.specs.Steps.{moves_in, posted_to}
 use Rattle.hp_heap.proofs.AllocFacts.ChoiceLaw.{Contains-none}
 use Rattle.hp_hall.specs.declared.kept.Kept.{Kept}
-use Rattle.hp_hall.specs.declared.kept.Kept.TheVariants.{Names, Segments}
-use Rattle.hp_hall.specs.declared.slot.TheConstants.{NAMES_SLOT}
+use Rattle.hp_hall.specs.declared.kept.Kept.TheVariants.{Segments}
 use Rattle.hp_heap.specs.History.{HeapView}
 use Rattle.hp_maps.specs.declared.table.Table.{Table}
 use Rattle.hp_script.specs.declared.answer.Answer.{Answer}
 use Rattle.hp_script.specs.declared.workload.Workload.{Workload}
 use Rattle.hp_segs.specs.SegsView.{SegsView}
-use Rattle.hp_zone.specs.declared.names.Names.{Names as NamesView}
 use Rattle.hp_weave.specs.Holds.{Hold}
 use Rattle.hp_proc.specs.Courses.{calls_in}
 use Rattle.hp_proc.specs.Histories.{entries_for}
@@ -42,13 +38,11 @@ use Rattle.thm_together.proofs.HomeEnds.{end_where_home}
 use Rattle.thm_together.specs.CameHome.{AllCameHome, CameByHolds, LeavesItsTable, WentItsWay}
 use Rattle.thm_moved.proofs.ClosedHeaps.{at_a_place, kept_by_close}
 use Rattle.thm_moved.proofs.ClosedTables.{tables_by_close}
-use Rattle.thm_moved.proofs.HeapsAdded.{AreOfTheirSlots, slots_on}
 use Rattle.thm_moved.proofs.HeldByMoves.{held_by_moves}
 use Rattle.thm_moved.proofs.MailTold.{fetched_in, told_by_post}
 use Rattle.thm_moved.proofs.MovesHeld.{segs_stay}
 use Rattle.thm_moved.proofs.MovesWithin.{calls_within}
-use Rattle.thm_moved.proofs.NamesStill.{IsAsItWas, held_as_they_were, stays_as_it_was, way_gives_names}
-use Rattle.thm_moved.specs.AtBoard.{AllCameToTheirSeats, CameToItsSeat, EndAtBoard, HomeAtBoard, NamesStayAtBoard}
+use Rattle.thm_moved.specs.AtBoard.{AllCameToTheirSeats, CameToItsSeat, EndAtBoard, HomeAtBoard}
 use Rattle.thm_moved.specs.ByClose.{HaveMade}
 use Rattle.thm_moved.specs.ByMoves.{CameByMoves}
 
@@ -87,14 +81,6 @@ opened_with opening kept segs is opens = subst (OpensWith opening) is opens
 left_with : (out : HandedOut) (kept : Kept) (segs : SegsView) → kept ≡ Segments segs → IsLeftIn out MAX_HEAPS kept → segs ≡ out.segs
 left_with out kept segs is left = subst (IsLeftIn out MAX_HEAPS) is left
 
--- and so it is of names
-opened_names : (opening : Opening) (kept : Kept) (names : NamesView) → kept ≡ Names names → OpensWith opening kept
-    → names ≡ opening.names.value
-opened_names opening kept names is opens = subst (OpensWith opening) is opens
-
-left_names : (out : HandedOut) (kept : Kept) (names : NamesView) → kept ≡ Names names → IsLeftIn out NAMES_SLOT kept → names ≡ out.names
-left_names out kept names is left = subst (IsLeftIn out NAMES_SLOT) is left
-
 module _ (workload : Workload) (answers : List Answer) (heaps : List HeapView) (segs : SegsView) (tables : List Table)
     (all : AllCameToTheirSeats workload answers heaps segs tables) where
   abbrev count : ℕ
@@ -115,7 +101,7 @@ module _ (workload : Workload) (answers : List Answer) (heaps : List HeapView) (
     among = at_a_place all.seats who its_seat.0 its_seat.1
 
     -- its asks were answered by what the board has at last
-    went : WentItsWay workload who segs.log segs.asks (all.first who) (all.last who) (all.courses who) (all.steps who)
+    pub went : WentItsWay workload who segs.log segs.asks (all.first who) (all.last who) (all.courses who) (all.steps who)
     went =
         let log = (all.closed.tables_are its_seat.0 among).log in
         let heard = (all.closed.tables_are its_seat.0 among).heard in
@@ -165,7 +151,7 @@ module _ (workload : Workload) (answers : List Answer) (heaps : List HeapView) (
       (left_with (handed_out heaps all.pens segs all.names) (all.moved.last MAX_HEAPS) late.0 late.1 (all.moved.left MAX_HEAPS (omega arith)))
 
   -- the moves of all
-  came_by : CameByMoves workload all.moved.moves all.steps segs
+  pub came_by : CameByMoves workload all.moved.moves all.steps segs
   came_by =
       record {
         first = all.moved.first;
@@ -182,33 +168,6 @@ module _ (workload : Workload) (answers : List Answer) (heaps : List HeapView) (
 
   held : (holds : List (Hold SegsView)) × CameByHolds workload all.steps holds segs
   held = held_by_moves workload all.moved.moves all.steps segs came_by
-
-  -- whoever held the names gave them back as they were
-  abbrev HeldAsTheyWere : ℕ → List Move → Type 0
-  HeldAsTheyWere who moves = All IsAsItWas (holds_in who NAMES_SLOT None moves)
-
-  names_held : (who : ℕ) → HeldAsTheyWere who (values_of who all.moved.moves)
-  names_held who =
-      ⊎_elim
-      (λ (below : who < count).
-      subst (HeldAsTheyWere who) (sym (moves_are who below))
-      (held_as_they_were who (all.steps who) (way_gives_names (went who below).way)
-      (subst AreOfTheirSlots (moves_are who below)
-      (slots_on all.moved.moves (all_free all.moved.first) (all_free all.moved.last) all.moved.replay who))))
-      (λ (beyond : count ≤ who).
-      subst (HeldAsTheyWere who) (sym (all.moved.strange who (omega (arith, beyond, all.opens.count)))) (All-nil IsAsItWas))
-      (cases_lt who count)
-
-  names_stay : all.names ≡ all.opening.names.value
-  names_stay =
-      let held = all.moved.chain NAMES_SLOT (omega arith) in
-      let same = stays_as_it_was held.holds (all.moved.first NAMES_SLOT) (all.moved.last NAMES_SLOT) held.chain
-      (λ who. subst (All IsAsItWas) (sym (held.own who)) (names_held who)) in
-      let opened = all.moved.opened NAMES_SLOT (omega arith) in
-      let early = names_kept all.opening (all.moved.first NAMES_SLOT) opened.at in
-      sym (left_names (handed_out heaps all.pens segs all.names) (all.moved.last NAMES_SLOT) early.0 (same ∙ early.1)
-      (all.moved.left NAMES_SLOT (omega arith)))
-      ∙ opened_names all.opening (all.moved.first NAMES_SLOT) early.0 early.1 opened.opens
 
   within : AreOfHeaps (λ who. trace_of (all.courses who)) heaps
   within who index beyond =
@@ -281,10 +240,8 @@ home_at_board workload answers heaps segs tables all = record {
   home = home workload answers heaps segs tables all;
   courses_are = refl;
   began = λ who seat there. sym (listed_is workload.participants all.first who seat there).1;
+  ended = λ who seat there. sym (listed_is workload.participants all.last who seat there).1;
 }
-
-pub names_stay_at_board : NamesStayAtBoard
-names_stay_at_board workload answers heaps segs tables all = names_stay workload answers heaps segs tables all
 
 pub end_at_board : EndAtBoard
 unfolding home

@@ -8,4 +8,6 @@ pub mod MailTold
 pub mod MovesAlone
 pub mod MovesHeld
 pub mod MovesWithin
+pub mod NamesAtBoard
+pub mod NamesShown
 pub mod NamesStill

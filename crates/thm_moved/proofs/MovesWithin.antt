@@ -101,7 +101,7 @@ module _ (who index : ℕ) (beyond : MAX_HEAPS ≤ index) where
       → (way : WentByLines count who first last courses steps) → AddsByLines way → TakeBelow (moves_in steps)
       → entries_for who index 1 (calls_in (trace_of courses)) ≡ []
   none_called (WentByLines.begins seat) adds below = refl
-  none_called (WentByLines.beside first old new courses before steps went path same same_lines none) adds below =
+  none_called (WentByLines.beside first old new courses before steps went path same stays none) adds below =
       none_called went adds (front_below (moves_in before) (moves_in steps) (subst TakeBelow (both_moves before steps) below))
   none_called (WentByLines.does_line first old new courses course before steps went is) adds below =
       let split = subst TakeBelow (both_moves before steps) below in

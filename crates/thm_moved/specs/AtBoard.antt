@@ -1,6 +1,7 @@
 -- Participants that came home from threads over one board, each told by its own way and its seat's view; and that what they and the board leave is
 -- an end of their workload. The rules "Opening and closing" of docs/BOARD.md and "Together" of docs/RUNS.md.
 use Rattle.std.specs.Prelude.{◌≡◌, ℕ, ◌≤◌, List, [], Contains, length, map, Some, slice_get}
+use Rattle.std.specs.List.{All}
 use Rattle.hp_board.specs.Closing.{HaveMoved, handed_out}
 use Rattle.hp_board.specs.SeatView.{SeatView}
 use Rattle.hp_board.specs.Views.{made_in}
@@ -19,8 +20,11 @@ use Rattle.hp_stats.specs.StatViews.{PenView}
 use Rattle.hp_zone.specs.declared.names.Names.{Names as NamesView}
 use Rattle.hp_proc.specs.Courses.{calls_in}
 use Rattle.hp_proc.specs.Ends.{IsEnd}
+use Rattle.hp_proc.specs.Handed.{names_shown}
+use Rattle.hp_proc.specs.Handing.{shared_of}
 use Rattle.hp_proc.specs.Histories.{entries_for}
 use Rattle.hp_proc.specs.LinesDone.{Course, trace_of}
+use Rattle.hp_proc.specs.SharedNames.{SharedNames, no_changes}
 use Rattle.hp_weave.specs.Weaving.{woven}
 use Rattle.thm_run.specs.EndLaws.{IsGiven}
 use Rattle.thm_run.specs.Seats.{Seat}
@@ -68,23 +72,30 @@ pub record AllCameToTheirSeats (workload : Workload) (answers : List Answer) (he
   pub posted : (frame : Frame) → Contains (steps 0) (Fetches (Some frame)) → (from : ℕ) × Contains (posted_to 0 (steps from)) frame
   pub answered : answers ≡ woven (map (λ line. line.participant) workload.lines.items) (λ who. map (λ course. course.answer) (courses who))
 
--- all came home, each from the seat in which it began, with these lines
+-- all came home, each from the seat in which it began to the one in which it ended, with these lines
 pub record ComeHomeSo (workload : Workload) (answers : List Answer) (heaps : List HeapView) (segs : SegsView) (tables : List Table)
-    (first : ℕ → Seat) (courses : ℕ → List Course) : Type 0 where
+    (first last : ℕ → Seat) (courses : ℕ → List Course) : Type 0 where
   pub home : AllCameHome workload answers heaps segs tables
   pub courses_are : home.courses ≡ courses
   pub began : (who : ℕ) (seat : Seat) → slice_get home.first who ≡ Some seat → seat ≡ first who
+  pub ended : (who : ℕ) (seat : Seat) → slice_get home.last who ≡ Some seat → seat ≡ last who
 
 -- wherever they did so, they came home
 abbrev pub HomeAtBoard : Type 0
 HomeAtBoard = (workload : Workload) (answers : List Answer) (heaps : List HeapView) (segs : SegsView) (tables : List Table)
     (all : AllCameToTheirSeats workload answers heaps segs tables)
-    → ComeHomeSo workload answers heaps segs tables all.first all.courses
+    → ComeHomeSo workload answers heaps segs tables all.first all.last all.courses
 
 -- the names are those with which the board opened
 abbrev pub NamesStayAtBoard : Type 0
 NamesStayAtBoard = (workload : Workload) (answers : List Answer) (heaps : List HeapView) (segs : SegsView) (tables : List Table)
     (all : AllCameToTheirSeats workload answers heaps segs tables) → all.names ≡ all.opening.names.value
+
+-- and whatever names a line of any of them reads, it reads these, and none changes them
+abbrev pub NamesReadAtBoard : Type 0
+NamesReadAtBoard = (workload : Workload) (answers : List Answer) (heaps : List HeapView) (segs : SegsView) (tables : List Table)
+    (all : AllCameToTheirSeats workload answers heaps segs tables) (who : ℕ)
+    → All (λ (shown : SharedNames). shown ≡ shared_of all.opening.names.value) (names_shown no_changes (trace_of (all.courses who)))
 
 -- and that is an end of their workload, of these lines as they were done
 abbrev pub EndAtBoard : Type 0

@@ -1,6 +1,6 @@
 //! Laws of a board's moves. They are proved of all of them, and their functions have no code.
 ghost use Rattle.thm_moved.specs.Adding.{AddsByMoves};
-ghost use Rattle.thm_moved.specs.AtBoard.{EndAtBoard, HomeAtBoard, NamesStayAtBoard};
+ghost use Rattle.thm_moved.specs.AtBoard.{EndAtBoard, HomeAtBoard, NamesReadAtBoard, NamesStayAtBoard};
 ghost use Rattle.thm_moved.specs.ByClose.{KeptByClose, TablesByClose};
 ghost use Rattle.thm_moved.specs.ByMoves.{HeldByMoves};
 ghost use Rattle.thm_moved.specs.Within.{CallsWithinByMoves};
@@ -21,9 +21,11 @@ pub fn close_law()
 {}
 
 /// Where all participants of a workload came home from threads to their seats at a board that opened for it, they came home, each from the seat in
-/// which it began; what they and the board leave is an end of the workload; and the names are those with which the board opened. Own.
+/// which it began; what they and the board leave is an end of the workload; and the names are those with which the board opened, and
+/// those that lines read. Own.
 pub fn board_law()
     ensures home { HomeAtBoard }
     ensures names { NamesStayAtBoard }
+    ensures read { NamesReadAtBoard }
     ensures end { EndAtBoard }
 {}

@@ -36,7 +36,7 @@ pub mod ServesNoHeap
 pub mod Settings
 pub mod SoundHistories
 pub mod StandingApart
-mod StatsFronts
+pub mod StatsFronts
 mod StatsOwn
 pub mod TellsLast
 pub mod Turns

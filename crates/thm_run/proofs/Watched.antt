@@ -206,7 +206,7 @@ same_watched {log} old new watchers maps listeners joined was = record {
   know = subst (λ (maps : MapsView). AllKnow maps.rows new.listeners) (sym maps) (subst (AllKnow old.maps.rows) (sym listeners) was.know);
 }
 
-quietly_watched : {old new : Seat} (log : List LogRecord) → Quietly old new → IsWatched log old → IsWatched log new
+pub quietly_watched : {old new : Seat} (log : List LogRecord) → Quietly old new → IsWatched log old → IsWatched log new
 quietly_watched log (Quietly.hears seat answered) was = same_watched seat.party _ seat.standing.watchers refl refl refl was
 quietly_watched log (Quietly.counts seat sent) was = same_watched seat.party _ seat.standing.watchers refl refl refl was
 quietly_watched log (Quietly.calls seat heap call answer none) was = was
@@ -215,7 +215,7 @@ quietly_watched log (Quietly.reads_names seat names) was = was
 quietly_watched log (Quietly.reads_stats seat heap counted) was = was
 quietly_watched log (Quietly.ends_line seat deed given) was = ended_watched log deed given seat.party seat.standing.watchers was
 
-mails_watched : {who : ℕ} {old new : Seat} {step : MailStep} (log : List LogRecord) → Mails who old new step → IsWatched log old
+pub mails_watched : {who : ℕ} {old new : Seat} {step : MailStep} (log : List LogRecord) → Mails who old new step → IsWatched log old
     → IsWatched log new
 mails_watched log (Mails.notes seat note) was = was
 mails_watched log (Mails.finds_nothing seat) was = was
@@ -232,7 +232,7 @@ tried_watchers records (caught.Refused row call) standing = refl
 tried_watchers records (caught.Elsewhere row call got) standing = refl
 
 -- by what it made of the segment value while it held that
-handles_watched : {count who : ℕ} {old new : Seat} {taken given : SegsView} → LogIsPlaced → Handles count who old new taken given → IsSound taken
+pub handles_watched : {count who : ℕ} {old new : Seat} {taken given : SegsView} → LogIsPlaced → Handles count who old new taken given → IsSound taken
     → IsWatched taken.log old → IsWatched taken.log new
 handles_watched log_is_placed (Handles.looks seat segs) sound was = was
 handles_watched log_is_placed (Handles.steps seat segs event core is its knows denied may) sound was =
@@ -264,7 +264,7 @@ module _ (log : List LogRecord) (seats : List Seat) (who : ℕ) (old new : Seat)
       by_seat (IsSeatAfter.its same its) = subst (IsWatched log) (sym its) is
       by_seat (IsSeatAfter.apart beside its) = all other seat its
 
-watched_on : (old new : List LogRecord) (seat : Seat) → HasRecords old new → IsWatched old seat → IsWatched new seat
+pub watched_on : (old new : List LogRecord) (seat : Seat) → HasRecords old new → IsWatched old seat → IsWatched new seat
 watched_on old new seat has was =
     subst (λ (log : List LogRecord). IsWatched log seat) (sym has.is) (longer old has.more seat.party seat.standing.watchers was)
 

@@ -19,7 +19,7 @@ use Rattle.hp_proc.specs.LinesDone.{Course, courses_of, trace_of}
 use Rattle.hp_proc.specs.LinesLeft.{opening_left}
 use Rattle.hp_proc.specs.NamesLog.{change_made}
 use Rattle.hp_proc.specs.OneThread.{IsLeftBy, IsMoment, WasAllowed, WasDenied}
-use Rattle.hp_proc.specs.WatchedBytes.{AreWatchersOf}
+use Rattle.hp_proc.specs.WatchedBytes.{AreWatchersOf, IsRegisteredWithGrants}
 use Rattle.thm_run.specs.EndLaws.{GoesBy, IsAtEnd, IsGiven}
 use Rattle.thm_run.specs.SoFar.{SoFar}
 
@@ -35,6 +35,13 @@ pub record HaveWatchers (workload : Workload) (courses : List Course) (segs : Se
   pub each : (who : ℕ) (table : Table) (listeners : List Listener) → slice_get tables who ≡ Some table
       → slice_get watchers who ≡ Some listeners
       → AreWatchersOf who (opening_left workload who) segs (courses_of who courses) table listeners
+
+-- where lines are done one after another: the table of each watcher's registration has what its participant's lines were granted by then
+pub record WatchersHaveGrants (workload : Workload) (courses : List Course) (segs : SegsView) (tables : List Table)
+    (watchers : List (List Listener)) : Type 0 where
+  pub each : (who : ℕ) (table : Table) (listeners : List Listener) → slice_get tables who ≡ Some table
+      → slice_get watchers who ≡ Some listeners
+      → All (IsRegisteredWithGrants who (opening_left workload who) segs (courses_of who courses) table) listeners
 
 -- the statistics that participants were answered are each those of a heap after a front of its history, which holds the calls that the
 -- participant had made by then; and for one participant these fronts never grow shorter
@@ -89,11 +96,22 @@ StatisticsEndSo = (workload : Workload) (courses : List Course) (answers : List 
     (heaps : List HeapView) (segs : SegsView) (tables : List Table) → IsGiven workload → SoFar workload courses parties hall
     → IsAtEnd workload courses answers parties hall heaps segs tables → AreOfLinesBefore workload courses → HaveStatistics courses heaps
 
--- participants that leave their listeners at the end leave the watchers of their lines
+-- participants leave these listeners at the end
+pub record LeaveListeners (parties : List Party) (watchers : List (List Listener)) : Type 0 where
+  pub many : length watchers ≡ length parties
+  pub are : (who : ℕ) (party : Party) (listeners : List Listener) → slice_get parties who ≡ Some party
+      → slice_get watchers who ≡ Some listeners → listeners ≡ party.listeners
+
+-- so they leave the watchers of their lines
 abbrev pub WatchersEndSo : Type 0
 WatchersEndSo = (workload : Workload) (courses : List Course) (answers : List Answer) (parties : List Party) (hall : HallView)
     (heaps : List HeapView) (segs : SegsView) (tables : List Table) (watchers : List (List Listener)) → IsGiven workload
     → SoFar workload courses parties hall → IsAtEnd workload courses answers parties hall heaps segs tables
-    → length watchers ≡ length parties
-    → ((who : ℕ) (party : Party) (listeners : List Listener) → slice_get parties who ≡ Some party → slice_get watchers who ≡ Some listeners
-    → listeners ≡ party.listeners) → HaveWatchers workload courses segs tables watchers
+    → LeaveListeners parties watchers → HaveWatchers workload courses segs tables watchers
+
+-- and these have what was granted
+abbrev pub GrantsEndSo : Type 0
+GrantsEndSo = (workload : Workload) (courses : List Course) (answers : List Answer) (parties : List Party) (hall : HallView)
+    (heaps : List HeapView) (segs : SegsView) (tables : List Table) (watchers : List (List Listener)) → IsGiven workload
+    → SoFar workload courses parties hall → IsAtEnd workload courses answers parties hall heaps segs tables
+    → LeaveListeners parties watchers → WatchersHaveGrants workload courses segs tables watchers

@@ -15,7 +15,7 @@ use Rattle.hp_segs.specs.SettledAsks.{IsSettled}
 use Rattle.hp_segs.specs.Sound as segments
 use Rattle.hp_segs.specs.declared.ask.Ask.{Ask}
 use Rattle.hp_proc.specs.Acting.{Acts, AreAsked}
-use Rattle.hp_proc.specs.Courses.{calls_in, numbered_in}
+use Rattle.hp_proc.specs.Courses.{after_line, calls_in, numbered_in}
 use Rattle.hp_proc.specs.Denying.{denials_of}
 use Rattle.hp_proc.specs.Histories.{entries_for}
 use Rattle.hp_proc.specs.LinesDone.{Course, trace_of}
@@ -33,7 +33,7 @@ use Rattle.thm_run.specs.Told.{FreedAreTold, IsCounted}
 -- A WAY BY LINES
 
 -- a participant did a line from one seat to another, by these steps: with no heap in its hand before and after it, and none twice in between;
--- and then the line ended
+-- and then the line ended, and left what lines leave
 pub record IsLineOf (count who : ℕ) (old new : Seat) (course : Course) (steps : List MailStep) : Type 0 where
   pub doer : ParticipantView
   pub mid : ParticipantView
@@ -53,27 +53,36 @@ pub record IsLineOf (count who : ℕ) (old new : Seat) (course : Course) (steps 
         records = new.standing.records;
         numbered = length (numbered_in new.trace);
       } ∷ []
+  pub left : new.standing ≡ after_line course.line course.answer course.trace old.standing
 
 -- none of these steps takes a heap or the names, or gives them back
 abbrev pub AreOfNoHeap : List MailStep → Type 0
 AreOfNoHeap steps = AllByRecursion (λ step. IsOfHeapOrNames step → ⊥) steps
+
+-- beside its lines nothing ends, and what they left stays
+pub record StaysBeside (old new : Seat) : Type 0 where
+  pub lines : new.lines ≡ old.lines
+  pub standing : new.standing ≡ old.standing
 
 -- a participant's way from one seat to another, by these lines and by all of these steps: a line, or what it did beside its lines with no heap
 -- and without the names, one after another
 pub data WentByLines (count who : ℕ) : Seat → Seat → List Course → List MailStep → Type 0 where
   begins : (seat : Seat) → WentByLines count who seat seat [] []
   beside : (first old new : Seat) (courses : List Course) (before steps : List MailStep) → WentByLines count who first old courses before
-      → SeatTrace count who old new steps → new.trace ≡ old.trace → new.lines ≡ old.lines → AreOfNoHeap steps → WentByLines count who first new courses (before ++ steps)
+      → SeatTrace count who old new steps → new.trace ≡ old.trace → StaysBeside old new → AreOfNoHeap steps
+      → WentByLines count who first new courses (before ++ steps)
   does_line : (first old new : Seat) (courses : List Course) (course : Course) (before steps : List MailStep)
       → WentByLines count who first old courses before → IsLineOf count who old new course steps
       → WentByLines count who first new (courses ++ course ∷ []) (before ++ steps)
 
--- wherever a participant that sits in a seat does a line, with no heap in its hand before and after it and none twice in between, as
--- `DoesLine` of hp_proc says, that is a line of it, and it sits there with what that left
+-- wherever a participant that sits in a seat does a line, with no heap in its hand before and after it and none twice in between, and knows
+-- then what lines leave, as `DoesLine` of hp_proc says, that is a line of it, and it sits there with what that left
 abbrev pub LineInSeat : Type 0
 LineInSeat = (count : ℕ) (held : List ℕ) (doer mid : ParticipantView) (course : Course) (steps : List MailStep) (seat : Seat)
     → Acts count None None held doer mid course.trace steps → AreOnce held → doer.party.deadline ≤ MAX_DEADLINE
     → seat.party ≡ doer.party → seat.standing ≡ doer.context.standing
+    → (after_registering course.line.act course.answer mid).context.standing
+    ≡ after_line course.line course.answer course.trace doer.context.standing
     → (next : Seat) × (next.party ≡ (after_registering course.line.act course.answer mid).party)
     × (next.standing ≡ (after_registering course.line.act course.answer mid).context.standing)
     × IsLineOf count doer.party.me seat next course steps
@@ -180,7 +189,7 @@ pub record AreAddedIn (who heap : ℕ) (steps : List MailStep) (entries : List E
 abbrev pub AddsByLines : {count who : ℕ} {first last : Seat} {courses : List Course} {steps : List MailStep}
     → WentByLines count who first last courses steps → Type 0
 AddsByLines (WentByLines.begins seat) = ⊤
-AddsByLines (WentByLines.beside first old new courses before steps went path same same_lines none) = AddsByLines went
+AddsByLines (WentByLines.beside first old new courses before steps went path same stays none) = AddsByLines went
 AddsByLines {count} {who} (WentByLines.does_line first old new courses course before steps went is) =
     AddsByLines went
     × ((heap : ℕ) → AreAddedIn who heap steps (entries_for who heap (1 + length (calls_in (trace_of courses))) (calls_in course.trace)))

@@ -7,7 +7,7 @@ ghost use Rattle.thm_run.specs.Freed.{ShownGoOnByLine, ShownOpen, ShownRest};
 ghost use Rattle.thm_run.specs.Told.{CountedAtLast, NumbersByTold, ToldByPosts};
 ghost use Rattle.thm_run.specs.OwnHolds.{AnswersByHolds, HoldsGoOn, NoneByHolds, NoneGrowsForHeld, OutcomesByHolds, SeesByHolds, TurnsByHolds};
 ghost use Rattle.thm_run.specs.Watching.{WatchedSoFar};
-ghost use Rattle.thm_run.specs.Handing.{CountedGoesOnByLine, CountedOpen, JudgedGoesOnByLine, JudgedOpen, JudgedRests, StatisticsEndSo, WatchersEndSo};
+ghost use Rattle.thm_run.specs.Handing.{CountedGoesOnByLine, CountedOpen, GrantsEndSo, JudgedGoesOnByLine, JudgedOpen, JudgedRests, StatisticsEndSo, WatchersEndSo};
 ghost use Rattle.thm_run.specs.OwnLines.{AnswersByTold, CallsByLines, HoldsByLines, LineInSeat, NoneElseGrowsForHeld, ServesInSeat, WayByLines};
 
 use hp_segs::log_law;
@@ -134,10 +134,11 @@ pub fn counted_law()
 {}
 
 /// After the last line statistics that lines read are those of fronts of the histories, and participants leave the watchers of their lines,
-/// each told of its table. Own.
+/// each told of its table, and each from a table on that had what its participant's lines had been granted. Own.
 pub fn handed_law()
     ensures statistics { StatisticsEndSo }
     ensures watched { WatchersEndSo }
+    ensures granted { GrantsEndSo }
 {
     watch_law();
 }

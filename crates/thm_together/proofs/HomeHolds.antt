@@ -62,7 +62,7 @@ module _ (workload : Workload) (answers : List Answer) (heaps : List HeapView) (
       (none_asked segs.log segs.asks who))
       (cases_lt who workload.participants)
 
-  its_holds : (who : ℕ) → who < workload.participants → HasItsHolds who (first_segs workload) segs home.holds (home.steps who)
+  pub its_holds : (who : ℕ) → who < workload.participants → HasItsHolds who (first_segs workload) segs home.holds (home.steps who)
   its_holds who below = record {
     few = omega (arith, below, home.given.few);
     unarmed = unarmed_new (first_segs workload) who refl;

@@ -22,9 +22,9 @@ use Rattle.thm_run.specs.OwnHolds.{GoesOn}
 use Rattle.thm_run.specs.Seats.{Handles, Mails, SeatTrace, Quietly, Seat, having_done, leaving}
 
 -- where it has a table, that has taken in what was there when it attached, which were no more records than so many
-record IsSince (most : ℕ) (seat : Seat) : Type 0 where
-  taken : seat.party.joined ≡ true → seat.standing.records ≤ seat.party.maps.number
-  within : seat.standing.records ≤ most
+pub record IsSince (most : ℕ) (seat : Seat) : Type 0 where
+  pub taken : seat.party.joined ≡ true → seat.standing.records ≤ seat.party.maps.number
+  pub within : seat.standing.records ≤ most
 
 -- nothing of that has changed
 record IsLikewise (old new : Seat) : Type 0 where
@@ -32,7 +32,7 @@ record IsLikewise (old new : Seat) : Type 0 where
   records : new.standing.records ≡ old.standing.records
   number : new.party.maps.number ≡ old.party.maps.number
 
-since_more : (most more : ℕ) (seat : Seat) → most ≤ more → IsSince most seat → IsSince more seat
+pub since_more : (most more : ℕ) (seat : Seat) → most ≤ more → IsSince most seat → IsSince more seat
 since_more most more seat few is = record { taken = is.taken; within = omega (arith, few, is.within) }
 
 since_same : (most : ℕ) (old new : Seat) → IsLikewise old new → IsSince most old → IsSince most new
@@ -41,7 +41,7 @@ since_same most old new same is = record {
   within = omega (arith, is.within, same.records);
 }
 
-quietly_since : {old new : Seat} (most : ℕ) → Quietly old new → IsSince most old → IsSince most new
+pub quietly_since : {old new : Seat} (most : ℕ) → Quietly old new → IsSince most old → IsSince most new
 quietly_since most (Quietly.hears seat answered) is = since_same most _ _ (record { joined = refl; records = refl; number = refl }) is
 quietly_since most (Quietly.counts seat sent) is = since_same most _ _ (record { joined = refl; records = refl; number = refl }) is
 quietly_since most (Quietly.calls seat heap call answer none) is =
@@ -53,7 +53,7 @@ quietly_since most (Quietly.reads_stats seat heap counted) is =
     since_same most _ _ (record { joined = refl; records = refl; number = refl }) is
 quietly_since most (Quietly.ends_line seat deed given) is = since_same most _ _ (record { joined = refl; records = refl; number = refl }) is
 
-mails_since : {who : ℕ} {old new : Seat} {step : MailStep} (most : ℕ) → Mails who old new step → IsSince most old → IsSince most new
+pub mails_since : {who : ℕ} {old new : Seat} {step : MailStep} (most : ℕ) → Mails who old new step → IsSince most old → IsSince most new
 mails_since most (Mails.notes seat note) is = is
 mails_since most (Mails.finds_nothing seat) is = is
 mails_since most (Mails.fetches seat frame) is = since_same most _ _ (record { joined = refl; records = refl; number = refl }) is
@@ -108,7 +108,7 @@ tried_since log old after (caught.Elsewhere row call got) tried more is =
       within = is.within;
     }
 
-handles_since : {count who : ℕ} {old new : Seat} {taken given : SegsView} → Handles count who old new taken given
+pub handles_since : {count who : ℕ} {old new : Seat} {taken given : SegsView} → Handles count who old new taken given
     → IsSince (length taken.log) old → IsSince (length taken.log) new
 handles_since (Handles.looks seat segs) is = is
 handles_since (Handles.steps seat segs event core its zero knows denied may) is =

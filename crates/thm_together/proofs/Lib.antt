@@ -1,4 +1,5 @@
 pub mod AllHome
+pub mod AsksAbove
 pub mod HomeAsks
 pub mod HomeEnds
 pub mod HomeFails
@@ -6,5 +7,10 @@ pub mod HomeHolds
 pub mod HomeLed
 pub mod HomeSince
 pub mod HomeTables
+pub mod HomeWatched
 pub mod HomeWays
 pub mod OnTheWay
+pub mod PathsHear
+pub mod PathsKnown
+pub mod RegisteredAt
+pub mod WaysRegistered

@@ -53,20 +53,21 @@ serves_on_its_way count first doer after courses steps more moved on served =
       seat = comes.0;
       party = comes.1;
       standing = comes.2 ∙ on.standing;
-      way = WentByLines.beside first on.seat comes.0 courses steps more on.way path comes.3 comes.4 comes.6;
+      way = WentByLines.beside first on.seat comes.0 courses steps more on.way path comes.3
+          (record { lines = comes.4; standing = comes.2 }) comes.6;
       adds = on.adds;
     }
 
 pub line_on_its_way : DoesALineOnItsWay
-line_on_its_way count first doer mid courses course steps more held notes few on acts once adds =
+line_on_its_way count first doer mid courses course steps more held notes few on acts once leaves adds =
     let late = its_deadline count first doer courses steps on in
-    let comes = line_in_seat count held doer mid course more on.seat acts once (omega (arith, few, late)) on.party on.standing in
+    let comes = line_in_seat count held doer mid course more on.seat acts once (omega (arith, few, late)) on.party on.standing leaves in
     let is : IsLineOf count first.party.me on.seat comes.0 course more =
     subst (λ who. IsLineOf count who on.seat comes.0 course more) (its_me count first doer courses steps on) comes.3 in
     let line : WentByLines count first.party.me first comes.0 (courses ++ course ∷ []) (steps ++ more) =
     WentByLines.does_line first on.seat comes.0 courses course steps more on.way is in
     let noted : WentByLines count first.party.me first comes.0 (courses ++ course ∷ []) ((steps ++ more) ++ map Notes notes) =
     WentByLines.beside first comes.0 comes.0 (courses ++ course ∷ []) (steps ++ more) (map Notes notes) line
-    (notes_path count first.party.me comes.0 notes) refl refl (notes_no_heap notes) in
+    (notes_path count first.party.me comes.0 notes) refl (record { lines = refl; standing = refl }) (notes_no_heap notes) in
     subst (IsOnItsWay count first (after_registering course.line.act course.answer mid) (courses ++ course ∷ [])) (append_assoc steps more (map Notes notes))
     (record { seat = comes.0; party = comes.1; standing = comes.2; way = noted; adds = (on.adds, adds) })

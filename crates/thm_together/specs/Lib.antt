@@ -1,3 +1,4 @@
 pub mod CameHome
 pub mod Failing
 pub mod OnItsWay
+pub mod Watched

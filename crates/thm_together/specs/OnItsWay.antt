@@ -6,7 +6,7 @@ use Rattle.hp_hall.specs.declared.note.Note.{Note}
 use Rattle.hp_serve.specs.Coordinating.{IsServed}
 use Rattle.hp_serve.specs.Party.{Party}
 use Rattle.hp_proc.specs.Acting.{Acts}
-use Rattle.hp_proc.specs.Courses.{calls_in}
+use Rattle.hp_proc.specs.Courses.{after_line, calls_in}
 use Rattle.hp_proc.specs.Denying.{denials_of}
 use Rattle.hp_proc.specs.Histories.{entries_for}
 use Rattle.hp_proc.specs.LinesDone.{Course, trace_of}
@@ -39,10 +39,12 @@ ServesOnItsWay = (count : ℕ) (first : Seat) (doer : ParticipantView) (after : 
 abbrev pub AddsItsCalls : ℕ → ℕ → Course → List MailStep → Type 0
 AddsItsCalls who calls course steps = (heap : ℕ) → AreAddedIn who heap steps (entries_for who heap (1 + calls) (calls_in course.trace))
 
--- and where it does a line, after which that has ended and it makes some notes
+-- and where it does a line, after which that has ended, with what it leaves, and it makes some notes
 abbrev pub DoesALineOnItsWay : Type 0
 DoesALineOnItsWay = (count : ℕ) (first : Seat) (doer mid : ParticipantView) (courses : List Course) (course : Course)
     (steps more : List MailStep) (held : List ℕ) (notes : List Note) → first.party.deadline ≤ MAX_DEADLINE
     → IsOnItsWay count first doer courses steps → Acts count None None held doer mid course.trace more → AreOnce held
+    → (after_registering course.line.act course.answer mid).context.standing
+    ≡ after_line course.line course.answer course.trace doer.context.standing
     → AddsItsCalls first.party.me (length (calls_in (trace_of courses))) course more
     → IsOnItsWay count first (after_registering course.line.act course.answer mid) (courses ++ course ∷ []) (steps ++ (more ++ map Notes notes))

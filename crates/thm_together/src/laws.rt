@@ -2,6 +2,9 @@
 ghost use Rattle.thm_together.specs.CameHome.{EndWhereHome, LedWhereHome};
 ghost use Rattle.thm_together.specs.Failing.{FailsOnceWhereHome, FailsWhereHome, RefusesOnceWhereHome, RefusesWhereHome};
 ghost use Rattle.thm_together.specs.OnItsWay.{BeginsItsWay, DoesALineOnItsWay, ServesOnItsWay};
+ghost use Rattle.thm_together.specs.Watched.{WatchedWhereHome};
+
+use hp_segs::log_law;
 
 /// A participant on a thread of its own goes its way by its lines: from its first seat on, where it serves, and where it does a line and then
 /// tells that it is done. Own.
@@ -26,3 +29,11 @@ pub fn failing_law()
     ensures refuses { RefusesWhereHome }
     ensures refuses_once { RefusesOnceWhereHome }
 {}
+
+/// What participants were told that came home are the watchers of their lines, in the order of registration, each told of its table since then.
+/// Own.
+pub fn watching_law()
+    ensures { WatchedWhereHome }
+{
+    log_law();
+}

@@ -3,4 +3,4 @@
 
 mod laws;
 
-pub use laws::{failing_law, going_law, threads_law};
+pub use laws::{failing_law, going_law, threads_law, watching_law};

@@ -26,7 +26,7 @@ use Rattle.hp_segs.specs.declared.outcome.Outcome.{Outcome}
 use Rattle.hp_segs.specs.declared.outcome.Outcome.TheVariants.{Freed, Granted}
 use Rattle.hp_proc.specs.LinesDone.{Course}
 use Rattle.hp_proc.specs.LinesLeft.{opening_left}
-use Rattle.hp_proc.specs.WatchedBytes.{AreWatchersOf, HasLaterGrant, HasTakenGrant, IsRegistered, IsUnwatch}
+use Rattle.hp_proc.specs.WatchedBytes.{AreWatchersOf, HasLaterGrant, HasTakenGrant, IsRegistered, IsRegisteredWithGrants, IsUnwatch}
 use Rattle.hp_proc.proofs.WorkedLines.WorkedWatching.{event, part, told_that_it_went}
 
 abbrev course_of : Act → Answer → Course
@@ -87,7 +87,7 @@ all_later =
     (All-cons (HasLaterGrant 0 0 0) (outcome 2 (Freed 2)) [] (λ from beyond. tt) (All-nil (HasLaterGrant 0 0 0)))
 
 module _ (workload : Workload) (table : Table) (rows : table.rows.items ≡ []) where
-  registered : IsRegistered 0 (opening_left workload 0) segs courses table watcher
+  abbrev registered : IsRegistered 0 (opening_left workload 0) segs courses table watcher
   registered = record {
     place = 0;
     course = watching;
@@ -102,10 +102,12 @@ module _ (workload : Workload) (table : Table) (rows : table.rows.items ≡ []) 
     within = omega arith;
     lags = record { reached = 0; from = omega arith; up_to = omega arith; left = refl };
     since = omega arith;
-    own = none_granted;
     beyond = all_later;
     until = λ joined. omega arith;
   }
+
+  registered_with_grants : IsRegisteredWithGrants 0 (opening_left workload 0) segs courses table watcher
+  registered_with_grants = record { is = registered; own = none_granted }
 
   abbrev WasTold : Listener → Type 0
   WasTold listener = AreTold listener.events (table_in listener.since) (table_in table.rows.items)

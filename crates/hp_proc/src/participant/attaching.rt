@@ -100,6 +100,9 @@ impl<'p, M: Mapper, F: Decide + Copy + Drop> Participant<'p, M, F> {
         ensures ready { MayDo (moment self.old.party.me self.old (H.state hall.old))
             → MayDo (moment self.old.party.me self.new (H.state hall.new)) }
         ensures err { OnErr result ((self.old.party.listeners ≢ []) × (self.new ≡ self.old) × (hall.new ≡ hall.old)) }
+
+        // It has acknowledged as many records as before, and leaves the roster where its line has an answer.
+        ensures own { (H.state hall.new).own self.old.party.me ≡ (H.state hall.old).own self.old.party.me }
         ensures roster { IfOk result (λ given. (H.state hall.new).joined self.old.party.me
             ≡ attached_after line.now.act given ((H.state hall.old).joined self.old.party.me)) }
         ensures changes { ChangesRoster self.old.party.me self.old self.new (H.state hall.old) (H.state hall.new) }

@@ -65,11 +65,7 @@ fn unlimit_answer(judged: Result<(), NotFound>) -> Answer
 
 impl<'p, M: Mapper, F: Decide + Copy + Drop> Participant<'p, M, F> {
     // A line that registers a watcher.
-    pub(crate) fn do_watch(
-        &mut self,
-        alloc: Global,
-        name: &Token<'_>,
-    ) -> Result<Answer, AllocError>
+    pub(crate) fn do_watch(&mut self, alloc: Global, name: &Token<'_>) -> Result<Answer, AllocError>
         ensures given { IfOk result (λ given. given ≡ registering self.old.context.standing.watchers
             self.old.context.standing.validators (act.Watch name.now)) }
         ensures left { IfOk result (λ given. self.new ≡ after_registering (act.Watch name.now) given self.old) }

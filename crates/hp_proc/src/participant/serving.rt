@@ -23,7 +23,7 @@ ghost use Rattle.hp_serve.specs.InHall.{CanServe, IsTiedIn, RemainsIn, StaysAlon
 ghost use Rattle.hp_serve.specs.Party.{due_in};
 ghost use Rattle.hp_serve.specs.SegmentSlot.{MayHold, StaysButParts, StaysButRoster};
 ghost use Rattle.hp_serve.specs.Serving.{HasUsedUpCalls, gives_segments, takes_segments};
-ghost use Rattle.hp_serve.specs.Waiting.{IsTurned, LeavesAsked};
+ghost use Rattle.hp_serve.specs.Waiting.{IsTurned, LeavesAsked, PausesFor};
 
 use super::Participant;
 use hp_base::{Caught, Mapper, Run};
@@ -72,16 +72,27 @@ impl<'p, M: Mapper, F: Decide + Copy + Drop> Participant<'p, M, F> {
         judged.server.serve(hall, &judged.limits)
     }
 
-    // Takes a turn of a wait until a deadline.
+    // Takes a turn of a wait until a deadline, and answers whether something moved.
     pub(crate) fn turn<H: Waiting>(&mut self, hall: &mut H, until: u64) -> Result<bool, AllocError>
         requires can { CanServe self.old.party.me self.old.party (H.state hall.old) }
         requires before { H.pending (H.state hall.old).clock until ≡ H.scale }
         ensures turned { (steps : List MailStep) × Did self.old.party.me steps (H.state hall.old) (H.state hall.new)
             × IsTurned (denials_of self.old.context.standing) (H.state hall.old).count until self.old.party self.new.party steps
             (result_ok result) }
+
+        // Each turn makes this measure smaller, and one that somebody stopped neither raises it nor moves the clock.
         ensures falls { OnOk result (left_to_do H.scale H.pending self.new.party (H.state hall.new) + H.pending
             (H.state hall.new).clock until < left_to_do H.scale H.pending self.old.party (H.state hall.old) + H.pending
             (H.state hall.old).clock until) }
+        ensures err { OnErr result ((left_to_do H.scale H.pending self.new.party (H.state hall.new) + H.pending
+            (H.state hall.new).clock until ≤ left_to_do H.scale H.pending self.old.party (H.state hall.old) + H.pending
+            (H.state hall.old).clock until) × ((H.state hall.new).clock ≡ (H.state hall.old).clock)) }
+
+        // It ends with a pause until the sooner of its deadlines. Where nothing moved, its own round's had not passed.
+        ensures paused { OnOk result (PausesFor (λ deadline. H.pending (H.state hall.old).clock deadline ≡ H.scale) until
+            (due_in self.new.party.core) (H.state hall.old).clock (H.state hall.new).clock)
+            × (result ≡ Ok false → (deadline : ℕ) → due_in self.new.party.core ≡ Some deadline → deadline < 2 ^ 64 - 1
+            → H.pending (H.state hall.old).clock deadline ≡ H.scale) }
         ensures asks { LeavesAsked self.old.party self.new.party }
         ensures stays { StaysIn self.old.party.me self.old.party self.new.party (H.state hall.old) (H.state hall.new) }
         ensures context { self.new.context ≡ self.old.context }

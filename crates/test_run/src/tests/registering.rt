@@ -9,8 +9,7 @@ const WATCHED: [Row; 5] = [
         "pool 0 2M 4\n0 watch w\n0 alloc a 1000\n0 free a\n",
         &[
             "line 2 0 watch ok",
-            "event 0 w alloc 0x100000000 2097152",
-            "event 0 w free 0x100000000 2097152",
+            "table 0 in 2 0\nevent 0 w alloc 0x100000000 2097152\nevent 0 w free 0x100000000 2097152\nend",
         ],
     ),
     (
@@ -23,16 +22,16 @@ const WATCHED: [Row; 5] = [
             "line 8 0 unwatch ok",
             "line 9 0 unwatch notfound",
             "line 10 0 watch ok",
+            "table 0 in 0 0\nend",
         ],
     ),
-    // One of participant 1 hears what comes into the table of 1, and when it detaches what goes from there.
+    // One of participant 1 hears what comes into the table of 1, when it detaches what goes from there, and when it attaches again what comes.
     (
         "participants 2\npool 0 2M 4\n1 watch w\n0 alloc a 1000\n1 detach\n1 attach\n",
         &[
             "line 5 1 detach ok",
             "line 6 1 attach ok 1",
-            "event 1 w alloc 0x100000000 2097152",
-            "event 1 w free 0x100000000 2097152",
+            "map 1 0x100000000 2097152 0\nevent 1 w alloc 0x100000000 2097152\nevent 1 w free 0x100000000 2097152\nevent 1 w alloc 0x100000000 2097152\nend",
         ],
     ),
     (

@@ -7,4 +7,5 @@ mod growing;
 mod leaving;
 mod lines;
 mod many;
+mod registering;
 mod reports;

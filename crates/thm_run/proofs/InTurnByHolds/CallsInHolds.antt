@@ -176,7 +176,7 @@ in_holds_more who number (first ∷ courses) course has stand =
 
 pub calls_by_lines : CallsByLines
 calls_by_lines count who _ _ _ _ (WentByLines.begins seat) adds = tt
-calls_by_lines count who _ _ _ _ (WentByLines.beside first old new courses before steps went path same same_lines none) adds =
+calls_by_lines count who _ _ _ _ (WentByLines.beside first old new courses before steps went path same stays none) adds =
     calls_by_lines count who first old courses before went adds
 calls_by_lines count who _ _ _ _ (WentByLines.does_line first old new courses course before steps went is) adds =
     in_holds_more who 1 courses course (calls_by_lines count who first old courses before went adds.0) (λ heap.

@@ -9,7 +9,7 @@ use Rattle.hp_hall.specs.Mail.{MailStep}
 use Rattle.hp_script.specs.declared.workload.Workload.{Workload}
 use Rattle.hp_segs.specs.SegsView.{SegsView}
 use Rattle.hp_segs.specs.declared.ask.Ask.{Ask}
-use Rattle.hp_proc.specs.Courses.{Standing, numbered_in}
+use Rattle.hp_proc.specs.Courses.{Standing, after_line, numbered_in}
 use Rattle.hp_proc.specs.Doing.{Done}
 use Rattle.hp_proc.specs.LinesDone.{Course, trace_of}
 use Rattle.hp_weave.specs.Holds.{Hold}
@@ -33,7 +33,7 @@ use Rattle.thm_run.specs.Seats.{EndedLine, SeatTrace, Seat}
 -- FROM A SEAT
 
 pub line_in_seat : LineInSeat
-line_in_seat count held doer mid course steps seat acts once deadline party standing =
+line_in_seat count held doer mid course steps seat acts once deadline party standing leaves =
     let deed = course.line.act in
     let comes =
     line_path count doer.party.me held doer mid deed course.answer course.trace steps acts refl deadline seat party standing in
@@ -58,6 +58,7 @@ line_in_seat count held doer mid course steps seat acts once deadline party stan
             ∙ ap
             (λ (trace : List Done). seat.lines
             ++ record ended { records = comes.new.standing.records; numbered = length (numbered_in trace) } ∷ []) (sym comes.trace);
+        left = comes.standing ∙ (leaves ∙ ap (after_line course.line course.answer course.trace) (sym standing));
       },
     )
 
@@ -77,7 +78,7 @@ serves_in_seat count party after steps seat served is =
 
 pub way_by_lines : WayByLines
 way_by_lines count who _ _ _ _ (WentByLines.begins seat) = (SeatTrace.ends seat, sym (append-nil seat.trace))
-way_by_lines count who _ _ _ _ (WentByLines.beside first old new courses before steps went path same same_lines none) =
+way_by_lines count who _ _ _ _ (WentByLines.beside first old new courses before steps went path same stays none) =
     let so = way_by_lines count who first old courses before went in
     (path_then count who first old new before steps so.0 path, same ∙ so.1)
 way_by_lines count who _ _ _ _ (WentByLines.does_line first old new courses course before steps went is) =
@@ -95,8 +96,8 @@ pub way_ended : {count who : ℕ} {first last : Seat} {courses : List Course} {s
     → ((course : Course) → Contains courses course → Contains workload.lines.items course.line) → AreLinesIn workload last.lines
 way_ended workload (WentByLines.begins seat) none among =
     subst (AreLinesIn workload) (sym none) (All-nil (λ (line : EndedLine). IsDeedIn workload line.deed))
-way_ended workload (WentByLines.beside first old new courses before steps went path same same_lines outside) none among =
-    subst (AreLinesIn workload) (sym same_lines) (way_ended workload went none among)
+way_ended workload (WentByLines.beside first old new courses before steps went path same stays outside) none among =
+    subst (AreLinesIn workload) (sym stays.lines) (way_ended workload went none among)
 way_ended workload (WentByLines.does_line first old new courses course before steps went is) none among =
     subst (AreLinesIn workload) (sym is.lines)
     (All-push (λ (line : EndedLine). IsDeedIn workload line.deed) old.lines _
@@ -108,11 +109,11 @@ way_ended workload (WentByLines.does_line first old new courses course before st
     }))
 
 -- no heap is in hand after it
-growths_went : {count who : ℕ} {first last : Seat} {courses : List Course} {steps : List MailStep}
+pub growths_went : {count who : ℕ} {first last : Seat} {courses : List Course} {steps : List MailStep}
     → WentByLines count who first last courses steps → (more : List MailStep) → NoneElseGrowsAlong who None (steps ++ more)
     → NoneElseGrowsAlong who None more
 growths_went (WentByLines.begins seat) more along = along
-growths_went {count} {who} (WentByLines.beside first old new courses before steps went path same same_lines none) more along =
+growths_went {count} {who} (WentByLines.beside first old new courses before steps went path same stays none) more along =
     growths_past who None steps more none
     (growths_went went (steps ++ more) (subst (NoneElseGrowsAlong who None) (append_assoc before steps more) along))
 growths_went {count} {who} (WentByLines.does_line first old new courses course before steps went is) more along =
@@ -120,7 +121,7 @@ growths_went {count} {who} (WentByLines.does_line first old new courses course b
     (growths_went went (steps ++ more) (subst (NoneElseGrowsAlong who None) (append_assoc before steps more) along))
 
 -- each ask and each notice took a number
-went_least : {count who : ℕ} {first last : Seat} {courses : List Course} {steps : List MailStep}
+pub went_least : {count who : ℕ} {first last : Seat} {courses : List Course} {steps : List MailStep}
     → WentByLines count who first last courses steps → length (numbered_in (trace_of courses)) ≤ last.party.asked
 went_least {count} {who} {first} {last} {courses} {steps} went =
     let so = way_by_lines count who first last courses steps went in
@@ -137,7 +138,7 @@ module _ (count who : ℕ) (last : SegsView) (few : who < MAX_PARTICIPANTS) wher
       → IsDoneOn count who last 1 (trace_of courses) steps others
   went_on (WentByLines.begins seat) exact answers more along others from left was =
       record { does = DoesInHolds.ends 1; to = from; left = left; answered = was }
-  went_on (WentByLines.beside first old new courses before steps went path same same_lines none) exact answers more along others from left was =
+  went_on (WentByLines.beside first old new courses before steps went path same stays none) exact answers more along others from left was =
       let early : List (Hold SegsView) = holds_from who None before in
       let late : List (Hold SegsView) = holds_from who None steps in
       let all : holds_from who None (before ++ steps) ≡ early ++ late =

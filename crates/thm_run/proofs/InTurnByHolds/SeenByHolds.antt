@@ -132,17 +132,15 @@ module _ (who number : ℕ) (asked : PagesAsked) (run : Option Run) (armed heard
             )
       ]
 
-  -- a grant
-  granted_rises : (generation : ℕ) → entry.outcome ≡ Granted generation
-      → Rises (length armed.log) (length heard.log) ((generation - 1) ∷ generation ∷ [])
-  granted_rises generation granted =
+  -- what a grant grants came after it was made
+  pub granted_later : (generation : ℕ) → entry.outcome ≡ Granted generation → length armed.log < generation
+  granted_later generation granted =
       let (ask, its_run, grant) = grant_is heard entry sound its.1 generation granted in
       let same : ask ≡ ask_of who number asked = same_Some ask (ask_of who number asked) (sym grant.kept ∙ is.answer.kept) in
       let added : slice_get heard.log (generation - 1) ≡ Some (Add its_run asked.heap) =
       grant.grown.added ∙ ap (λ (ask : Ask). Some (Add its_run ask.heap)) same in
-      let later = came generation its_run grant.grown.some (omega (arith, since, grant.at)) (omega (arith, within, grant.at)) added
-      (ungranted generation granted) in
-      (omega (arith, later), (omega arith, omega (arith, within, grant.at)))
+      came generation its_run grant.grown.some (omega (arith, since, grant.at)) (omega (arith, within, grant.at)) added
+      (ungranted generation granted)
     where
       ungranted : (generation : ℕ) → entry.outcome ≡ Granted generation → is_granted armed.asks generation ≡ false
       ungranted generation granted =
@@ -155,6 +153,13 @@ module _ (who number : ℕ) (asked : PagesAsked) (run : Option Run) (armed heard
           counted_once (grants generation) heard.asks found.element entry (sound.asks.granted_once generation) (found.passes, there)
           (ap (is_grant_of generation) granted ∙ eq-eqb generation generation refl, its.1) in
           not_before (subst (Contains armed.asks) same found.among))
+
+  granted_rises : (generation : ℕ) → entry.outcome ≡ Granted generation
+      → Rises (length armed.log) (length heard.log) ((generation - 1) ∷ generation ∷ [])
+  granted_rises generation granted =
+      let (ask, its_run, grant) = grant_is heard entry sound its.1 generation granted in
+      let later = granted_later generation granted in
+      (omega (arith, later), (omega arith, omega (arith, within, grant.at)))
 
   -- a growth for its heap that failed
   failed_rises : has_failed last.log last.asks asked.heap entry.at ≡ true

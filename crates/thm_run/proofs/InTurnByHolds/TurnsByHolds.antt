@@ -42,7 +42,7 @@ passes_twice p (z ∷ zs) (suc first) (suc later) x y few less here there one ot
     passes_twice p zs first later x y (omega (arith, few, count_by-cons p z zs)) (omega (arith, less)) here there one other
 
 -- what a grant or a refusal is of is an ask
-ask_of_trace : (log : List LogRecord) (trace : List Done) (place : ℕ) (outcome : Outcome) (done : Done) → is_grant_or_refusal outcome ≡ true
+pub ask_of_trace : (log : List LogRecord) (trace : List Done) (place : ℕ) (outcome : Outcome) (done : Done) → is_grant_or_refusal outcome ≡ true
     → slice_get (numbered_in trace) place ≡ Some done → IsOutcomeOf log outcome done → IsAskAt (numbered_in trace) place
 ask_of_trace log trace place (Granted generation) (Asked asked run) shown there kind = record { asked = asked; run = run; there = there }
 ask_of_trace log trace place (Refused cause) (Asked asked run) shown there kind = record { asked = asked; run = run; there = there }
@@ -67,7 +67,7 @@ ask_of_trace log trace place (Refused cause) (HeapSeen heap history) shown there
 ask_of_trace log trace place (Refused cause) (ChunkMapped chunk caught) shown there kind = absurd kind
 ask_of_trace log trace place (Refused cause) (StatsRead heap counted) shown there kind = absurd kind
 
-gives_shown : (log : List LogRecord) (outcome : Outcome) (run : Option Run) → Gives log outcome run → is_grant_or_refusal outcome ≡ true
+pub gives_shown : (log : List LogRecord) (outcome : Outcome) (run : Option Run) → Gives log outcome run → is_grant_or_refusal outcome ≡ true
 gives_shown log (Granted generation) run gives = refl
 gives_shown log (Refused cause) run gives = refl
 gives_shown log (Stale done) (Some run) gives = absurd gives
@@ -75,7 +75,7 @@ gives_shown log (Stale done) None gives = absurd gives
 gives_shown log (Freed generation) (Some run) gives = absurd gives
 gives_shown log (Freed generation) None gives = absurd gives
 
-settles : (who number : ℕ) (entry : AskLog) → entry.from ≡ who → entry.number ≡ number → is_grant_or_refusal entry.outcome ≡ true
+pub settles : (who number : ℕ) (entry : AskLog) → entry.from ≡ who → entry.number ≡ number → is_grant_or_refusal entry.outcome ≡ true
     → grants_or_refuses who number entry ≡ true
 settles who number entry from which shown =
     and_from (entry.from == who) ((entry.number == number) && is_grant_or_refusal entry.outcome) (eq-eqb entry.from who from)

@@ -1,5 +1,5 @@
 -- The watchers that participants leave at the end are those of their lines, each told of its table.
-use Rattle.std.proofs.Common.{◌≡◌, ◌∙◌, ℕ, ◌<◌, ◌≤◌, Bool, true, List, Some, refl, ap, sym, subst, arith}
+use Rattle.std.proofs.Common.{◌≡◌, ◌∙◌, ℕ, ◌≤◌, Bool, true, List, Some, ap, sym, subst, arith}
 use Rattle.std.specs.List.{All}
 use Rattle.std.specs.Prelude.{slice_get}
 use Rattle.std.proofs.lemmas.List.Elements.{All-weaker}
@@ -13,7 +13,7 @@ use Rattle.hp_maps.specs.declared.table.Table.{Table}
 use Rattle.hp_plain.specs.HallView.{HallView, own_at}
 use Rattle.hp_proc.specs.LinesDone.{Course, courses_of}
 use Rattle.hp_proc.specs.LinesLeft.{LinesLeft, opening_left}
-use Rattle.hp_proc.specs.WatchedBytes.{AreWatchersOf, IsRegistered}
+use Rattle.hp_proc.specs.WatchedBytes.{AreWatchersOf, IsRegistered, IsRegisteredWithGrants}
 use Rattle.hp_script.specs.declared.answer.Answer.{Answer}
 use Rattle.hp_script.specs.declared.workload.Workload.{Workload}
 use Rattle.hp_segs.specs.SegsView.{SegsView}
@@ -25,7 +25,7 @@ use Rattle.thm_run.proofs.HallFacts.HallEnds.{segs_same}
 use Rattle.thm_run.proofs.Registrations.RegisteredOn.{standing_left}
 use Rattle.thm_run.proofs.RunFacts.SoFarFacts.{at_place}
 use Rattle.thm_run.specs.EndLaws.{IsAtEnd}
-use Rattle.thm_run.specs.Handing.{WatchersEndSo}
+use Rattle.thm_run.specs.Handing.{GrantsEndSo, WatchersEndSo}
 use Rattle.thm_run.specs.Registered.{IsRegisteredBy}
 use Rattle.thm_run.specs.SoFar.{SoFar}
 use Rattle.thm_run.specs.Watching.{WatchedSoFar}
@@ -34,31 +34,33 @@ use Rattle.thm_run.specs.Watching.{WatchedSoFar}
 at_end : (who reached : ℕ) (opening : LinesLeft) (segs : SegsView) (courses : List Course) (table : Table) (listener : Listener)
     → (table.joined ≡ true → reached ≤ table.number)
     → IsRegisteredBy who reached opening segs.log segs.asks courses listener.name listener.since
-    → IsRegistered who opening segs courses table listener
+    → IsRegisteredWithGrants who opening segs courses table listener
 at_end who reached opening segs courses table listener most is = record {
-  place = is.place;
-  course = is.course;
-  name = is.name;
-  there = is.there;
-  watches = is.watches;
-  named = is.named;
-  answered = is.answered;
-  still = is.still;
-  number = is.number;
-  seen = is.seen;
-  within = is.within;
-  lags = is.lags;
-  since = is.since;
+  is = record {
+    place = is.place;
+    course = is.course;
+    name = is.name;
+    there = is.there;
+    watches = is.watches;
+    named = is.named;
+    answered = is.answered;
+    still = is.still;
+    number = is.number;
+    seen = is.seen;
+    within = is.within;
+    lags = is.lags;
+    since = is.since;
+    beyond = is.beyond;
+    until = λ joined.
+        let below = most joined in
+        omega (arith, is.until, below);
+  };
   own = is.own;
-  beyond = is.beyond;
-  until = λ joined.
-      let below = most joined in
-      omega (arith, is.until, below);
 }
 
 module _ (workload : Workload) (courses : List Course) (answers : List Answer) (parties : List Party) (hall : HallView) (heaps : List HeapView)
     (segs : SegsView) (tables : List Table) (so : SoFar workload courses parties hall)
-    (is_end : IsAtEnd workload courses answers parties hall heaps segs tables) (law : WatchedSoFar) (who : ℕ) (party : Party) (table : Table)
+    (is_end : IsAtEnd workload courses answers parties hall heaps segs tables) (who : ℕ) (party : Party) (table : Table)
     (there : slice_get parties who ≡ Some party) (at : slice_get tables who ≡ Some table) where
   abbrev opening : LinesLeft
   opening = opening_left workload who
@@ -76,20 +78,25 @@ module _ (workload : Workload) (courses : List Course) (answers : List Answer) (
       ∙ ap (λ (joined : Bool). (part_of joined (own_at hall who)).number) (sym leaves.joined ∙ joined) in
       omega (arith, number, leaves.number)
 
-  pub its_watchers : AreWatchersOf who opening segs (courses_of who courses) table party.listeners
-  its_watchers =
+  pub its_grants : All (IsRegisteredWithGrants who opening segs (courses_of who courses) table) party.listeners
+  its_grants =
+      All-weaker
+      (λ (listener : Listener).
+      IsRegisteredBy who (own_at hall who).number opening segs.log segs.asks (courses_of who courses) listener.name listener.since)
+      (IsRegisteredWithGrants who opening segs (courses_of who courses) table)
+      (λ listener its. at_end who (own_at hall who).number opening segs (courses_of who courses) table listener most its) party.listeners
+      (subst (λ (segs : SegsView). All (λ (listener : Listener).
+      IsRegisteredBy who (own_at hall who).number opening segs.log segs.asks (courses_of who courses) listener.name listener.since)
+      party.listeners) same (so.registered who party there))
+
+  pub its_watchers : WatchedSoFar → AreWatchersOf who opening segs (courses_of who courses) table party.listeners
+  its_watchers law =
       let watched = law workload courses parties hall so who party there in
       record {
         names_are = watched.names ∙ ap (λ (standing : Standing). standing.watchers) (sym (standing_left opening (courses_of who courses)));
         registered =
-            All-weaker
-            (λ (listener : Listener).
-            IsRegisteredBy who (own_at hall who).number opening segs.log segs.asks (courses_of who courses) listener.name listener.since)
-            (IsRegistered who opening segs (courses_of who courses) table)
-            (λ listener its. at_end who (own_at hall who).number opening segs (courses_of who courses) table listener most its) party.listeners
-            (subst (λ (segs : SegsView). All (λ (listener : Listener).
-            IsRegisteredBy who (own_at hall who).number opening segs.log segs.asks (courses_of who courses) listener.name listener.since)
-            party.listeners) same (so.registered who party there));
+            All-weaker (IsRegisteredWithGrants who opening segs (courses_of who courses) table)
+            (IsRegistered who opening segs (courses_of who courses) table) (λ listener its. its.is) party.listeners its_grants;
         told =
             subst (λ (rows : List Row).
             All (λ (listener : Listener). AreTold listener.events (table_in listener.since) (table_in rows)) party.listeners)
@@ -98,11 +105,20 @@ module _ (workload : Workload) (courses : List Course) (answers : List Answer) (
 
 -- so it is with all of them
 pub watchers_end_so : WatchedSoFar → WatchersEndSo
-watchers_end_so law workload courses answers parties hall heaps segs tables watchers given so is_end many are = record {
-  count = many ∙ so.count;
+watchers_end_so law workload courses answers parties hall heaps segs tables watchers given so is_end leave = record {
+  count = leave.many ∙ so.count;
   each = λ who table listeners at at_watchers.
-      let party = at_place parties who (omega (arith, slice_get_within watchers who listeners at_watchers, many)) in
+      let party = at_place parties who (omega (arith, slice_get_within watchers who listeners at_watchers, leave.many)) in
       subst (AreWatchersOf who (opening_left workload who) segs (courses_of who courses) table)
-      (sym (are who party.it listeners party.there at_watchers))
-      (its_watchers workload courses answers parties hall heaps segs tables so is_end law who party.it table party.there at);
+      (sym (leave.are who party.it listeners party.there at_watchers))
+      (its_watchers workload courses answers parties hall heaps segs tables so is_end who party.it table party.there at law);
+}
+
+pub grants_end_so : GrantsEndSo
+grants_end_so workload courses answers parties hall heaps segs tables watchers given so is_end leave = record {
+  each = λ who table listeners at at_watchers.
+      let party = at_place parties who (omega (arith, slice_get_within watchers who listeners at_watchers, leave.many)) in
+      subst (All (IsRegisteredWithGrants who (opening_left workload who) segs (courses_of who courses) table))
+      (sym (leave.are who party.it listeners party.there at_watchers))
+      (its_grants workload courses answers parties hall heaps segs tables so is_end who party.it table party.there at);
 }

@@ -50,7 +50,7 @@ since_told : (event : Event) (listeners : List Listener)
 since_told event [] = refl
 since_told event (listener ∷ listeners) = ap (λ (tables : List (List Row)). listener.since ∷ tables) (since_told event listeners)
 
-since_all : (events : List Event) (listeners : List Listener)
+pub since_all : (events : List Event) (listeners : List Listener)
     → map (λ (listener : Listener). listener.since) (all_told events listeners) ≡ map (λ (listener : Listener). listener.since) listeners
 since_all [] listeners = refl
 since_all (event ∷ events) listeners = since_all events (told_after event listeners) ∙ since_told event listeners

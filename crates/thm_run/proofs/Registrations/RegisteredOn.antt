@@ -49,7 +49,7 @@ tied_table log own joined maps tied =
     (record { reached = lag.reached; from = lag.from; up_to = omega (arith, up_to, seen); left = lag.left })
 
 -- what stands in two lists stands in one of them
-get_either : {X : Type 0} (xs ys : List X) (n : ℕ) (x : X) → slice_get (xs ++ ys) n ≡ Some x
+pub get_either : {X : Type 0} (xs ys : List X) (n : ℕ) (x : X) → slice_get (xs ++ ys) n ≡ Some x
     → (slice_get xs n ≡ Some x) ⊎ ((k : ℕ) × (slice_get ys k ≡ Some x))
 get_either [] ys n x here = inr (n, here)
 get_either (y ∷ xs) ys zero x here = inl here

@@ -21,7 +21,7 @@ use Rattle.hp_segs.specs.declared.growth.Growth.{Growth}
 use Rattle.hp_serve.specs.Serving.{gives_segments, takes_segments}
 use Rattle.hp_stats.specs.StatViews.{PenView}
 use Rattle.hp_proc.specs.Acting.{Acts}
-use Rattle.hp_proc.specs.Courses.{OwnCall, Standing, numbered_in}
+use Rattle.hp_proc.specs.Courses.{OwnCall, Standing, after_line, numbered_in}
 use Rattle.hp_proc.specs.Doing.{Done}
 use Rattle.hp_proc.specs.Doing.Done.{Called}
 use Rattle.hp_proc.specs.Histories.{entries_for, entry_for}
@@ -44,7 +44,9 @@ one_at_most false = omega arith
 module _ (count who : ℕ) (doer : ParticipantView) (me : doer.party.me ≡ who) (deadline : doer.party.deadline ≤ longest) (seat : Seat)
     (party : seat.party ≡ doer.party) (standing : seat.standing ≡ doer.context.standing) (taken given : HeapView) (pen : PenView)
     (call : HeapCall) (answer : HeapAnswer) (uncut : run_cut answer ≡ []) (same : given.plain.index ≡ taken.plain.index) (line : Line)
-    (result : Answer) where
+    (result : Answer)
+    (leaves : (after_registering line.act result (after_call doer)).context.standing
+    ≡ after_line line result (Called taken.plain.index call answer ∷ []) doer.context.standing) where
   abbrev heap : ℕ
   heap = taken.plain.index
 
@@ -103,6 +105,7 @@ module _ (count who : ℕ) (doer : ParticipantView) (me : doer.party.me ≡ who)
         ∙ ap
         (λ (trace : List Done). seat.lines
         ++ record ended { records = comes.new.standing.records; numbered = length (numbered_in trace) } ∷ []) (sym comes.trace);
+    left = comes.standing ∙ (leaves ∙ ap (after_line line result course.trace) (sym standing));
   }
 
   way : WentByLines count who seat comes.new (course ∷ []) steps

@@ -5,11 +5,11 @@ use Rattle.hp_plain.specs.Opening.{AreHome, HandsOut}
 use Rattle.hp_proc.specs.LinesDone.{Course}
 use Rattle.thm_run.specs.Drops.{DropsComeFirst}
 use Rattle.thm_run.specs.Freed.{AreShown}
-use Rattle.thm_run.specs.Handing.{AreJudged, AreOfLinesBefore, HaveStatistics, HaveWatchers, listeners_in}
+use Rattle.thm_run.specs.Handing.{AreJudged, AreOfLinesBefore, HaveStatistics, HaveWatchers, WatchersHaveGrants, listeners_in}
 use Rattle.thm_causes.specs.Notices.{NoticesAreHeard}
 use Rattle.hp_run.specs.Running.{HaveDoneLines}
 use Rattle.hp_run.proofs.Coming.{given_by}
-use Rattle.hp_run.proofs.Ending.{all_in, at_end, came_by, ends_so, first_sound, names_agree, names_there, segs_there, watched_so}
+use Rattle.hp_run.proofs.Ending.{all_in, at_end, came_by, ends_so, first_sound, leave_listeners, names_agree, names_there, segs_there}
 use Rattle.hp_run.proofs.FailureLemmas.{fail_so}
 use Rattle.hp_run.proofs.LevelLemmas.{level_so}
 use Rattle.hp_run.proofs.ReasonLemmas.{may_run, notices_so, reasons_so}
@@ -60,6 +60,8 @@ returns g c =
     let came = came_by workload answers last done heaps left.segs left.names out in
     let ended =
     ends_so workload answers last done heaps left.segs left.names out tables c.end_law.ensures given sound c.in_ok-tables.ensures.tables in
+    let at_the_end = at_end workload answers last done heaps left.segs left.names out tables sound c.in_ok-tables.ensures.tables in
+    let leave = leave_listeners workload answers last done heaps left.segs left.names out watchers c.in_ok-tables.ensures.watchers in
     record {
       end = record {
         end = ended.0;
@@ -71,11 +73,14 @@ returns g c =
         shown = subst (λ (courses : List Course). AreShown left.segs.log left.segs.asks courses) (sym ended.1)
             (done.shown left.segs shown (may_run workload done.courses c.requires.runnable done.lines_are));
         watched = subst (λ (courses : List Course). HaveWatchers workload courses left.segs tables (listeners_in watchers)) (sym ended.1)
-            (watched_so workload answers last done heaps left.segs left.names out tables watchers c.handed_law.ensures.watched given sound
-            c.in_ok-tables.ensures.tables c.in_ok-tables.ensures.watchers);
+            (c.handed_law.ensures.watched workload done.courses answers done.parties last.plain heaps left.segs tables (listeners_in watchers)
+            given done.so_far at_the_end leave);
+        granted = subst (λ (courses : List Course). WatchersHaveGrants workload courses left.segs tables (listeners_in watchers)) (sym ended.1)
+            (c.handed_law.ensures.granted workload done.courses answers done.parties last.plain heaps left.segs tables (listeners_in watchers)
+            given done.so_far at_the_end leave);
         statistics = subst (λ (courses : List Course). HaveStatistics courses heaps) (sym ended.1)
             (c.handed_law.ensures.statistics workload done.courses answers done.parties last.plain heaps left.segs tables given done.so_far
-            (at_end workload answers last done heaps left.segs left.names out tables sound c.in_ok-tables.ensures.tables) done.counted);
+            at_the_end done.counted);
         judged = subst (λ (courses : List Course). AreJudged workload courses left.segs) (sym ended.1) (done.judged left.segs shown);
         counted = subst (λ (courses : List Course). AreOfLinesBefore workload courses) (sym ended.1) done.counted;
         calls = came.calls;

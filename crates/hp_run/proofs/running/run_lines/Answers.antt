@@ -6,6 +6,7 @@ use Rattle.thm_causes.specs.Threads.{TimeoutsArePlanned}
 use Rattle.hp_run.specs.Ending.{AreAsMay, IsHeardEnd, AllCaughtUp, IsSoloRunEnd}
 use Rattle.hp_run.proofs.Coming.{first_stays, opens_so}
 use Rattle.hp_run.proofs.FailureLemmas.{named_all}
+use Rattle.hp_run.proofs.NamesInOrder.{names_in_order}
 use Rattle.hp_run.proofs.OpeningLemmas.{if_both, if_three}
 use Rattle.hp_run.proofs.WantLemmas.{wants_so}
 use Rattle.hp_run.proofs.running.run_lines.Goals as goal
@@ -39,6 +40,7 @@ returns-clause-end g c =
     record {
       run = record {
         end = end.end;
+        handed_names = λ who. names_in_order workload end.end.courses heard.counted who;
         watched = heard.watched;
         statistics = heard.statistics;
         named = are_named;
@@ -64,6 +66,7 @@ returns-clause-end g c =
       notices = heard.notices;
       drops = heard.drops;
       shown = heard.shown;
+      granted = heard.granted;
       judged = heard.judged;
       counted = heard.counted;
     }) c.run_in.ensures.end c.run_in.ensures.named by_plan

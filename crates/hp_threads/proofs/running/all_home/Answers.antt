@@ -14,7 +14,7 @@ meet_all-requires g c =
     can_meet c.args.workload.now c.args.board.now c.args.boxes.now c.args.cells.now c.args.workers.items c.in_ok-worked.worked.items
     c.requires.workers (omega (arith, c.in_ok-worked.ensures.count, c.in_ok-worked.worked.ok.0, c.args.workers.ok.0))
     c.in_ok-worked.ensures.each apart.all_passes.items apart.home.seats.items apart.home.answers.items apart.home.tables.items
-    apart.home.watchers.items c.in_ok-apart.ensures c.requires.boxed
+    apart.home.watchers.items apart.home.stats.items c.in_ok-apart.ensures c.requires.boxed
 
 pub returns : goal.returns
 returns g c =
@@ -23,4 +23,5 @@ returns g c =
     omega (arith, c.in_ok-worked.ensures.count, c.in_ok-worked.worked.ok.0, c.args.workers.ok.0) in
     all_promised c.args.workload.now c.args.board.now c.args.boxes.now c.args.cells.now c.args.workers.items
     c.in_ok-worked.worked.items c.requires.workers long c.in_ok-worked.ensures.each apart.all_passes.items apart.home.seats.items
-    apart.home.answers.items apart.home.tables.items apart.home.watchers.items c.in_ok-apart.ensures c.in_ok-meet_all.ensures
+    apart.home.answers.items apart.home.tables.items apart.home.watchers.items apart.home.stats.items c.in_ok-apart.ensures
+    c.in_ok-meet_all.ensures

@@ -1,9 +1,13 @@
 -- What all leave is what their promises and the closed board say.
-use Rattle.std.proofs.Common.{◌∙◌, List, length, sym, ap, subst}
+use Rattle.std.proofs.Common.{◌≡◌, ◌∙◌, List, length, sym, ap, subst}
+use Rattle.std.specs.List.{All}
+use Rattle.atomic_table.specs.Seated.{TableId}
 use Rattle.hp_mail.specs.PassView.{MailboxView}
+use Rattle.hp_stats.specs.StatViews as stats
 use Rattle.hp_proc.specs.ParticipantView.{ParticipantView}
 use Rattle.hp_threads.specs.Running.{AllHavePromised}
 use Rattle.hp_threads.specs.Workers.{AreWorkers}
+use Rattle.hp_threads.proofs.Countings.{pens_of}
 use Rattle.hp_threads.proofs.Ends.{all_free, answered_declared, answered_lines, everyone, few_answered, woven_by}
 use Rattle.hp_threads.proofs.Seating.{are_workers, seats_many, stats_many}
 use Rattle.hp_threads.proofs.running.run_apart.Goals as goal
@@ -45,16 +49,25 @@ woven-requires g c =
     let opens = c.in_ok-board.ensures.opens in
     let promised = c.in_ok-seats.ensures in
     record {
-      few = few_answered _ _ opens.count _ _ _ _ _ promised c.requires.can.lines _ _ c.deref-2.ensures.value c.deref-3.ensures.value opens.few;
-      declared = answered_declared _ _ opens.count _ _ _ _ _ promised c.requires.can.lines _ _ c.deref-2.ensures.value c.deref-3.ensures.value;
-      count = answered_lines _ _ opens.count _ _ _ _ _ promised c.requires.can.lines _ _ c.deref-2.ensures.value c.deref-3.ensures.value;
+      few = few_answered _ _ opens.count _ _ _ _ _ _ promised c.requires.can.lines _ _ c.deref-2.ensures.value c.deref-3.ensures.value opens.few;
+      declared = answered_declared _ _ opens.count _ _ _ _ _ _ promised c.requires.can.lines _ _ c.deref-2.ensures.value c.deref-3.ensures.value;
+      count = answered_lines _ _ opens.count _ _ _ _ _ _ promised c.requires.can.lines _ _ c.deref-2.ensures.value c.deref-3.ensures.value;
     }
 
 pub close-heaps-requires-clause-free : goal.close-heaps-requires-clause-free
-close-heaps-requires-clause-free g c = all_free _ _ c.in_ok-board.ensures.opens.count _ _ _ _ _ c.in_ok-seats.ensures
+close-heaps-requires-clause-free g c = all_free _ _ c.in_ok-board.ensures.opens.count _ _ _ _ _ _ c.in_ok-seats.ensures
 
 pub close-heaps-requires-clause-everyone : goal.close-heaps-requires-clause-everyone
-close-heaps-requires-clause-everyone g c = everyone _ _ c.in_ok-board.ensures.opens.count _ _ _ _ _ c.in_ok-seats.ensures
+close-heaps-requires-clause-everyone g c = everyone _ _ c.in_ok-board.ensures.opens.count _ _ _ _ _ _ c.in_ok-seats.ensures
+
+pub count_all-requires : goal.count_all-requires
+count_all-requires g c =
+    let cells_are = c.in_ok-board.ensures.cells_are in
+    record {
+      pens = pens_of c.in_ok-board.field-0.board.opening c.in_ok-board.field-0.cells _ _ c.close-heaps.ensures.heaps cells_are;
+      passes = subst (λ (cells : List TableId). All (λ (pass : stats.PassView). pass.cells ≡ cells) c.in_ok-seats.field-0.stats.items) cells_are
+          c.in_ok-seats.ensures.cells;
+    }
 
 pub returns : goal.returns
 returns g c =
@@ -68,15 +81,17 @@ returns g c =
       opens = opens;
       seats = home.seats.items;
       by = home.answers.items;
+      stat_passes = home.stats.items;
       promised = subst
           (λ (firsts : List ParticipantView). AllHavePromised c.args.workload.now board firsts home.seats.items home.answers.items
-          home.tables.items home.watchers.items)
+          home.tables.items home.watchers.items home.stats.items)
           c.in_ok-workers.ensures.newcomers promised;
       in_order =
-          woven_by _ _ opens.count _ _ _ _ _ promised c.requires.can.lines _ _ c.deref-2.ensures.value c.deref-3.ensures.value _
+          woven_by _ _ opens.count _ _ _ _ _ _ promised c.requires.can.lines _ _ c.deref-2.ensures.value c.deref-3.ensures.value _
           c.in_ok-answers.ensures;
       pens = c.close-heaps.result.pens.items;
       heaps_are = left.heaps;
+      published = c.count_all.ensures;
       calls = left.calls;
       segs_are = left.segs;
       tables_are = left.tables;

@@ -2,6 +2,7 @@
 use Rattle.std.proofs.Common.{◌∙◌, ◌<◌, ◌++◌, List, map, length, vec_len, refl, ap, arith}
 use Rattle.hp_board.specs.SeatView.{SeatView}
 use Rattle.hp_mail.specs.PassView.{PassView}
+use Rattle.hp_stats.specs.StatViews as stats
 use Rattle.hp_threads.specs.declared.working.Worked.{Worked}
 use Rattle.hp_threads.specs.Running.{told_of, watched_of}
 use Rattle.hp_threads.proofs.Handing.{apart_more, first_told, watched_more}
@@ -23,6 +24,10 @@ loop-worked-preserved c =
           ap (λ (all : List SeatView). all ++ map (λ (one : Worked). one.seat) rest) c.push_reserved-in-loop-worked.ensures.items
           ∙ first_told (λ (one : Worked). one.seat) c.loop-worked.seats.items _ left rest c.remove-seat.result _ some c.remove-seat.ensures.value
           c.remove-seat.ensures.items refl was.seats;
+      stats =
+          ap (λ (all : List stats.PassView). all ++ map (λ (one : Worked). one.stats) rest) c.push_reserved-in-loop-worked-5.ensures.items
+          ∙ first_told (λ (one : Worked). one.stats) c.loop-worked.all_stats.items _ left rest c.remove-seat.result _ some
+          c.remove-seat.ensures.value c.remove-seat.ensures.items refl was.stats;
       done =
           apart_more c.loop-worked.answers.items c.push_reserved-in-loop-worked-2.new.self.items c.loop-worked.tables.items
           c.push_reserved-in-loop-worked-3.new.self.items c.in-Some.told.answers c.in-Some.told.table left rest c.remove-seat.result _
@@ -37,10 +42,12 @@ loop-worked-preserved c =
       count = omega (arith, was.count, c.push_reserved-in-loop-worked-2.ensures.len, c.push_reserved-in-loop-worked-3.ensures.len);
       passed = omega (arith, was.passed, c.push_reserved.ensures.len, c.push_reserved-in-loop-worked-2.ensures.len);
       watching = omega (arith, was.watching, c.push_reserved-in-loop-worked-2.ensures.len, c.push_reserved-in-loop-worked-4.ensures.len);
+      reading = omega (arith, was.reading, c.push_reserved-in-loop-worked-2.ensures.len, c.push_reserved-in-loop-worked-5.ensures.len);
       seated = omega (arith, was.seated, c.push_reserved-in-loop-worked.ensures.len, c.push_reserved-in-loop-worked-2.ensures.len);
       passes_room = omega (arith, was.passes_room, c.push_reserved.ensures.capacity);
       seats_room = omega (arith, was.seats_room, c.push_reserved-in-loop-worked.ensures.capacity);
       answers_room = omega (arith, was.answers_room, c.push_reserved-in-loop-worked-2.ensures.capacity);
       tables_room = omega (arith, was.tables_room, c.push_reserved-in-loop-worked-3.ensures.capacity);
       watchers_room = omega (arith, was.watchers_room, c.push_reserved-in-loop-worked-4.ensures.capacity);
+      stats_room = omega (arith, was.stats_room, c.push_reserved-in-loop-worked-5.ensures.capacity);
     }

@@ -9,6 +9,7 @@ invariant-loop-worked l = record {
   passes : l.all_passes.items ++ map (λ (one : Worked). one.passes.items) l.worked.items
       ≡ map (λ (one : Worked). one.passes.items) l.initial.worked.items;
   seats : l.seats.items ++ map (λ (one : Worked). one.seat) l.worked.items ≡ map (λ (one : Worked). one.seat) l.initial.worked.items;
+  stats : l.all_stats.items ++ map (λ (one : Worked). one.stats) l.worked.items ≡ map (λ (one : Worked). one.stats) l.initial.worked.items;
   done : map Some (zip l.answers.items l.tables.items) ++ map (λ (one : Worked). told_of one.done) l.worked.items
       ≡ map (λ (one : Worked). told_of one.done) l.initial.worked.items;
   watched : map Some l.watchers.items ++ map (λ (one : Worked). watched_of one.done) l.worked.items
@@ -17,12 +18,14 @@ invariant-loop-worked l = record {
   count : vec_len l.tables ≡ vec_len l.answers;
   passed : vec_len l.all_passes ≡ vec_len l.answers;
   watching : vec_len l.watchers ≡ vec_len l.answers;
+  reading : vec_len l.all_stats ≡ vec_len l.answers;
   seated : vec_len l.seats ≡ vec_len l.answers;
   passes_room : vec_len l.initial.worked ≤ vec_capacity l.all_passes;
   seats_room : vec_len l.initial.worked ≤ vec_capacity l.seats;
   answers_room : vec_len l.initial.worked ≤ vec_capacity l.answers;
   tables_room : vec_len l.initial.worked ≤ vec_capacity l.tables;
   watchers_room : vec_len l.initial.worked ≤ vec_capacity l.watchers;
+  stats_room : vec_len l.initial.worked ≤ vec_capacity l.all_stats;
 }
 
 abbrev pub decreases-loop-worked : goal.decreases-loop-worked

@@ -42,7 +42,5 @@ returns-clause-each g c =
     (λ out gives place worker worked below.
     let one = (gives place worked below).1 in
     let home : Worked = get_or out.items place worked in
-    subst
-    (λ (before : WorkerView). HasWorked c.args.workload.now before.doer before.seat home.seat before.passes home.passes.items home.done)
-    (sym (one.job_is worker)) one.call.met)
+    subst (λ (before : WorkerView). HasWorked c.args.workload.now before home) (sym (one.job_is worker)) one.call.met)
     c.map_vec.ensures.each

@@ -5,6 +5,7 @@ use Rattle.hp_board.specs.SeatView.{SeatView}
 use Rattle.hp_chair.specs.ChairView.{ChairView}
 use Rattle.hp_mail.specs.PassView.{PassView}
 use Rattle.hp_proc.specs.ParticipantView.{ParticipantView}
+use Rattle.hp_stats.specs.StatViews as stats
 use Rattle.hp_threads.specs.Leaving.{CameHome, HasDoneUnlessStopped}
 use Rattle.hp_threads.specs.Workers.{IsNewcomer, IsWorker, WorkerView}
 use Rattle.hp_threads.specs.declared.working.Done.{Done}
@@ -77,6 +78,9 @@ returns g c =
       mailboxes =
           same_boxes old new did.goes_on doer.party.me last did.again.ready passes parts.passes
           ∙ ap (map (λ (pass : PassView). pass.mailbox)) passes_were;
+      cells = ap (λ (pass : stats.PassView). pass.cells) parts.stats ∙ did.goes_on.cells
+          ∙ ap (λ (chair : ChairView). chair.stats.cells) c.new-hall.ensures ∙ ap (λ (w : WorkerView). w.stats.cells) c.worker.view_is;
+      read = parts.read;
       has = subst (HasDoneUnlessStopped workload worker.doer seat new.steps) (sym c.ok-done.ensures.value)
           (subst (λ (first : ParticipantView). HasDoneUnlessStopped workload first seat new.steps (result_ok c.brought_home.result)) doer_is
           (has_unless old new did.goes_on doer.party.me last did.again.ready c.brought_home.result workload doer seat parts.seat

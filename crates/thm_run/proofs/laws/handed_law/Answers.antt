@@ -1,4 +1,4 @@
-use Rattle.thm_run.proofs.Registrations.HandedWatchers.{watchers_end_so}
+use Rattle.thm_run.proofs.Registrations.HandedWatchers.{grants_end_so, watchers_end_so}
 use Rattle.thm_run.proofs.StatsOwn.{statistics_end_so}
 use Rattle.thm_run.proofs.laws.handed_law.Goals as goal
 
@@ -7,3 +7,6 @@ returns-clause-statistics c = statistics_end_so
 
 pub returns-clause-watched : goal.returns-clause-watched
 returns-clause-watched c = watchers_end_so c.watch_law.ensures
+
+pub returns-clause-granted : goal.returns-clause-granted
+returns-clause-granted c = grants_end_so

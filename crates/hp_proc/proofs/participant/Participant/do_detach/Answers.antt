@@ -70,6 +70,14 @@ returns-clause-changes g c =
     changes_noted doer mid (record mid.context.standing { attached = false }) (detached_same mid.party.listeners doer.party mid.party c.in_ok-detach.ensures.ok.after_is)
     (ap (λ (context : Context). context.pools) is.context) c.note_detached.ensures.noted is.tied c.in_ok-detach.ensures.ok.left.roster is.stays.slots is.stays.others
 
+-- it has acknowledged what it had
+pub returns-clause-own : goal.returns-clause-own
+returns-clause-own g c = c.in_ok-detach.ensures.ok.left.own
+
+pub returns-in_err-detach-clause-own : goal.returns-in_err-detach-clause-own
+returns-in_err-detach-clause-own g c =
+    ap (λ late. (g.H.Hall.state late).own c.args.self.now.party.me) c.in_err-detach.ensures.err.2
+
 pub returns-clause-roster : goal.returns-clause-roster
 returns-clause-roster g c =
     let me = c.args.self.now.party.me in

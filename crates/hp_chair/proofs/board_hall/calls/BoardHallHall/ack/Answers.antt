@@ -50,7 +50,7 @@ invariant_of-self g c =
     (leaves_acked before.seat.mine seat.mine c.args.number c.ack.ensures.acked) c.ack.ensures.board
     inside.board.now inside.boxes.now inside.cells.now c.self.invariant
     (hand_acked before.seat.mine seat.mine c.args.number c.ack.ensures.acked)
-    (acked_here before.seat.mine seat.mine c.args.number c.ack.ensures.acked))
+    (acked_here before.seat.mine seat.mine c.args.number c.ack.ensures.acked) (λ heap. refl))
 
 pub returns : goal.returns
 returns g c =

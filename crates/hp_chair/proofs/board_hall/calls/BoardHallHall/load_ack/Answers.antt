@@ -34,7 +34,8 @@ invariant_of-self g c =
     (leaves_loaded before.seat.mine seat.mine from number loaded own) c.load_ack-number.ensures.board
     inside.board.now inside.boxes.now inside.cells.now c.self.invariant
     (hand_loaded before.seat.mine seat.mine from number loaded)
-    (acked_loaded (acked_since_take before.steps) before.seat.mine seat.mine from number loaded c.self.invariant.acked))
+    (acked_loaded (acked_since_take before.steps) before.seat.mine seat.mine from number loaded c.self.invariant.acked)
+    (λ heap. refl))
 
 pub returns : goal.returns
 returns g c =

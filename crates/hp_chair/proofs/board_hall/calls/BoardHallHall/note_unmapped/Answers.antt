@@ -27,7 +27,8 @@ invariant_of-self g c =
     (leaves_unmapped before.seat.mine seat.mine c.note_unmapped.ensures.unmapped) c.note_unmapped.ensures.board
     inside.board.now inside.boxes.now inside.cells.now c.self.invariant
     (hand_unmapped before.seat.mine seat.mine c.note_unmapped.ensures.unmapped)
-    (acked_unmapped (acked_since_take before.steps) before.seat.mine seat.mine c.note_unmapped.ensures.unmapped c.self.invariant.acked))
+    (acked_unmapped (acked_since_take before.steps) before.seat.mine seat.mine c.note_unmapped.ensures.unmapped c.self.invariant.acked)
+    (λ heap. refl))
 
 pub returns : goal.returns
 returns g c =

@@ -19,7 +19,8 @@ invariant_of-self g c =
     (sym c.with_note.ensures)
     (chair_noted c.args.me (Read c.now-now.result) (λ heap told. refl) before before.seat its c.self.invariant.declared (goes_same before.seat.mine)
     (leaves_same before.seat.mine) refl
-    inside.board.now inside.boxes.now inside.cells.now c.self.invariant (hand_same before.seat.mine) c.self.invariant.acked)
+    inside.board.now inside.boxes.now inside.cells.now c.self.invariant (hand_same before.seat.mine) c.self.invariant.acked
+    (λ heap. refl))
 
 pub returns : goal.returns
 returns g c =

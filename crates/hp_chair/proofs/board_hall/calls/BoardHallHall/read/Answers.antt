@@ -18,7 +18,7 @@ invariant_of-self g c =
     subst (λ (steps : List MailStep). IsChair inside.board.now inside.boxes.now inside.cells.now (with_stats pass steps before))
     (sym c.with_note.ensures)
     (chair_read c.args.me c.args.heap found before pass inside.board.now inside.boxes.now inside.cells.now its c.self.invariant
-    c.read-entries.ensures.read c.requires.heap)
+    c.read-entries.ensures.read c.requires.heap c.read-entries.ensures.not_below)
 
 pub returns : goal.returns
 returns g c =

@@ -26,7 +26,7 @@ invariant_of-self g c =
     (quiet_note (Paused c.args.moved c.args.until))
     c.with_note.ensures refl (hand_same before.seat.mine) c.self.invariant.acked
     (reader_step inside.cells.now before after c.self.invariant.reads refl refl step c.with_note.ensures
-    (tells_none step (λ heap told. refl)))
+    (tells_none step (λ heap told. refl)) (λ heap. refl))
 
 pub returns : goal.returns
 returns g c =

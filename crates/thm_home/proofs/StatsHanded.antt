@@ -1,0 +1,246 @@
+-- What a participant read of the statistics of one heap on its way, where pens and passes have met.
+use Rattle.std.proofs.Common.{◌≡◌, ◌≢◌, ◌⊎◌, ◌∙◌, ℕ, zero, suc, ◌+◌, ◌<◌, ◌≤◌, cond, eqb, eq-eqb, ne_eqb, List, [], ◌∷◌, ◌++◌, append-nil, append_assoc, filter_map, length, map, take, Option, Some, None, inl, inr, ⊎_elim, refl, ap, sym, subst, arith}
+use Rattle.core.specs.List.{cons_option}
+use Rattle.std.specs.Prelude.{Contains}
+use Rattle.std.specs.List.{All, AllByRecursion, slice_get}
+use Rattle.std.proofs.lemmas.Bool.{cases_eq, cond-false, cond-true}
+use Rattle.std.proofs.lemmas.List.Elements.{All-cons, All-nil}
+use Rattle.std.proofs.lemmas.Option.{same_Some}
+use Rattle.hp_chair.specs.Publishing.{CountsRise}
+use Rattle.hp_chair.specs.Steps.{pairs_in}
+use Rattle.hp_hall.specs.HeapPairs.{ArePairsOf}
+use Rattle.hp_hall.specs.Mail.{MailStep, Notes}
+use Rattle.hp_hall.specs.declared.note.Note.TheVariants.{ReadStats}
+use Rattle.hp_heap.specs.History.{HeapView, entries_of, opening_of, replay}
+use Rattle.hp_heap.specs.PlainHeap.{PlainHeap}
+use Rattle.hp_heap.specs.Statistics.{statistics_of}
+use Rattle.hp_heap.specs.declared.entry.Entry.{Entry}
+use Rattle.hp_proc.specs.Courses.{OwnCall, calls_in}
+use Rattle.hp_proc.specs.Doing.{Counted, Done}
+use Rattle.hp_proc.specs.Doing.Done.{StatsRead}
+use Rattle.hp_proc.specs.Handed.{AreStatisticsOf, AreStatsHanded, HoldCalls, counted_read}
+use Rattle.hp_proc.specs.Handing.{counted_in}
+use Rattle.hp_proc.specs.Histories.{entries_for, entry_for}
+use Rattle.hp_stats.specs.Pairs.{AreAmong, IsOneOf, no_pair}
+use Rattle.hp_stats.specs.StatViews.{PenView}
+use Rattle.hp_stats.specs.declared.stat_pair.StatPair.{StatPair}
+use Rattle.thm_run.proofs.Rising.{Rises, seen_rising}
+use Rattle.thm_run.proofs.StatsFronts.{read_is}
+use Rattle.thm_home.proofs.BesideHeap.{added}
+use Rattle.thm_home.proofs.GivenFronts.{GoesOnWith}
+use Rattle.thm_home.proofs.ReadPlaces.{IsReadAt, IsShown, pair_among}
+
+-- OWN ENTRIES
+
+-- an entry of a participant has a number above that
+abbrev IsAbove : ℕ → ℕ → Entry → Type 0
+IsAbove who calls entry = entry.caller.participant ≡ who → calls < entry.caller.number
+
+abbrev AreAbove : ℕ → ℕ → List Entry → Type 0
+AreAbove who calls entries = AllByRecursion (IsAbove who calls) entries
+
+-- the entries of calls that are numbered on from above
+own_above : (who index calls number : ℕ) (own : List OwnCall) → calls < number → AreAbove who calls (entries_for who index number own)
+own_above who index calls number [] above = tt
+own_above who index calls number (call ∷ own) above =
+    let rest = own_above who index calls (number + 1) own (omega (arith, above)) in
+    ⊎_elim
+    (λ (here : call.heap ≡ index).
+    subst (AreAbove who calls)
+    (sym (cond-true (eqb call.heap index) (entry_for who number call ∷ entries_for who index (number + 1) own)
+    (entries_for who index (number + 1) own) (eq-eqb call.heap index here))) ((λ its. above), rest))
+    (λ (apart : call.heap ≢ index).
+    subst (AreAbove who calls)
+    (sym (cond-false (eqb call.heap index) (entry_for who number call ∷ entries_for who index (number + 1) own)
+    (entries_for who index (number + 1) own) (ne_eqb call.heap index apart))) rest)
+    (cases_eq call.heap index)
+
+-- where a participant's own ones are so, all are
+all_above : (who calls : ℕ) (entries : List Entry) → AreAbove who calls (entries_of who entries) → AreAbove who calls entries
+unfolding entries_of
+all_above who calls [] are = tt
+all_above who calls (entry ∷ entries) are =
+    let rest = entries_of who entries in
+    ⊎_elim
+    (λ (its : entry.caller.participant ≡ who).
+    let own = subst (AreAbove who calls) (cond-true (eqb entry.caller.participant who) (entry ∷ rest) rest (eq-eqb entry.caller.participant who its)) are in
+    (own.0, all_above who calls entries own.1))
+    (λ (apart : entry.caller.participant ≢ who).
+    let others = subst (AreAbove who calls) (cond-false (eqb entry.caller.participant who) (entry ∷ rest) rest (ne_eqb entry.caller.participant who apart)) are in
+    ((λ its. absurd (apart its)), all_above who calls entries others))
+    (cases_eq entry.caller.participant who)
+
+-- an entry whose number is not above stands in the front
+stands_before : (who calls place : ℕ) (front more : List Entry) (entry : Entry) → AreAbove who calls more
+    → slice_get (front ++ more) place ≡ Some entry → entry.caller.participant ≡ who → entry.caller.number ≤ calls → place < length front
+stands_before who calls zero [] [] entry above there its few = cc
+stands_before who calls (suc place) [] [] entry above there its few = cc
+stands_before who calls zero [] (one ∷ more) entry above there its few =
+    let same : one ≡ entry = same_Some one entry there in
+    let high = subst (IsAbove who calls) same above.0 its in
+    absurd (omega (arith, high, few))
+stands_before who calls (suc place) [] (one ∷ more) entry above there its few =
+    let never = stands_before who calls place [] more entry above.1 there its few in
+    absurd (omega (arith, never))
+stands_before who calls zero (one ∷ front) more entry above there its few = omega arith
+stands_before who calls (suc place) (one ∷ front) more entry above there its few =
+    let rest = stands_before who calls place front more entry above there its few in
+    omega (arith, rest)
+
+-- a history goes on from a front that is not longer than so many entries, and of what came after that the participant's own are later calls
+pub record IsOfFront (who index : ℕ) (first rest : List Done) (entries : ℕ) (whole : List Entry) : Type 0 where
+  pub front : List Entry
+  pub own : List Entry
+  pub short : length front ≤ entries
+  pub goes : GoesOnWith who own front whole
+  pub late : own ≡ entries_for who index (1 + length (calls_in first)) (calls_in rest)
+
+-- so the participant's earlier calls stand in the front
+pub hold_calls : (who index : ℕ) (first rest : List Done) (entries : ℕ) (whole : List Entry) → IsOfFront who index first rest entries whole
+    → HoldCalls whole entries who (length (calls_in first))
+hold_calls who index first rest entries whole of place entry there its few =
+    let calls : ℕ = length (calls_in first) in
+    let above : AreAbove who calls of.goes.more =
+    all_above who calls of.goes.more
+    (subst (AreAbove who calls) (sym (of.goes.owned ∙ of.late)) (own_above who index calls (1 + calls) (calls_in rest) (omega arith))) in
+    let before =
+    stands_before who calls place of.front of.goes.more entry above
+    (subst (λ (history : List Entry). slice_get history place ≡ Some entry) of.goes.is there) its few in
+    let short = of.short in
+    omega (arith, before, short)
+
+-- WHAT A PAIR SAYS
+
+-- before its first entry a heap has nothing
+nothing_yet : (plain : PlainHeap) → statistics_of (opening_of plain) ≡ no_pair.stats
+unfolding statistics_of
+nothing_yet plain = refl
+
+-- a pair that was published, or that with count 0, has the statistics of a front
+pub pair_says : (heap : HeapView) (pen : PenView) (pair : StatPair) (counted : Counted) → ArePairsOf heap pen → IsOneOf pen.published pair
+    → counted ≡ counted_in pair → AreStatisticsOf heap counted
+pair_says heap pen pair counted pairs (inl none) is =
+    let its : counted ≡ counted_in no_pair = is ∙ ap counted_in none in
+    subst (AreStatisticsOf heap) (sym its) (record { within = omega arith; stats = sym (nothing_yet heap.plain) })
+pair_says heap pen pair counted pairs (inr among) is =
+    let its = pairs pair among in
+    subst (AreStatisticsOf heap) (sym is) (record { within = its.count; stats = its.stats })
+
+-- ALL THAT IT READ
+
+module _ (who : ℕ) (heap : HeapView) (pen : PenView) (trace : List Done) (steps : List MailStep) (pairs : ArePairsOf heap pen)
+    (published : AreAmong pen.published (pairs_in heap.plain.index steps)) (rises : CountsRise steps)
+    (reads : (counted : Counted) (first rest : List Done) → trace ≡ first ++ StatsRead heap.plain.index counted ∷ rest
+    → IsReadAt who heap.plain.index first rest counted steps) where
+  abbrev index : ℕ
+  index = heap.plain.index
+
+  abbrev read_in : List Done → List Counted
+  read_in done = filter_map (counted_read index) done
+
+  abbrev entries_in : List Done → List ℕ
+  entries_in done = map (λ (counted : Counted). counted.entries) (read_in done)
+
+  -- each of a front
+  front_of : (counted : Counted) (first rest : List Done) → trace ≡ first ++ StatsRead index counted ∷ rest → AreStatisticsOf heap counted
+  front_of counted first rest is =
+      let at = reads counted first rest is in
+      pair_says heap pen at.pair counted pairs
+      (published at.pair (pair_among index steps at.before at.behind at.pair at.steps_are)) at.is
+
+  fronts_on : (first rest : List Done) → trace ≡ first ++ rest → All (AreStatisticsOf heap) (read_in rest)
+  fronts_on first [] is = All-nil (AreStatisticsOf heap)
+  fronts_on first (done ∷ rest) is =
+      by_read (fronts_on (first ++ done ∷ []) rest (is ∙ sym (append_assoc first (done ∷ []) rest))) (counted_read index done) refl
+    where
+      by_read : All (AreStatisticsOf heap) (read_in rest) → (read : Option Counted) → counted_read index done ≡ read
+          → All (AreStatisticsOf heap) (read_in (done ∷ rest))
+      by_read further None none =
+          subst (λ (read : Option Counted). All (AreStatisticsOf heap) (cons_option read (read_in rest))) (sym none) further
+      by_read further (Some counted) some =
+          subst (λ (read : Option Counted). All (AreStatisticsOf heap) (cons_option read (read_in rest))) (sym some)
+          (All-cons (AreStatisticsOf heap) counted (read_in rest)
+          (front_of counted first rest (is ∙ ap (λ (one : Done). first ++ one ∷ rest) (read_is index done counted some))) further)
+
+  -- and they rise: nothing was read so far, or that
+  record WasRead (first : List Done) (floor : ℕ) : Type 0 where
+    counted : Counted
+    early : List Done
+    between : List Done
+    is : first ≡ early ++ StatsRead index counted ∷ between
+    count : counted.entries ≡ floor
+
+  abbrev IsFloor : List Done → ℕ → Type 0
+  IsFloor first floor = (floor ≡ 0) ⊎ WasRead first floor
+
+  floor_on : (first : List Done) (done : Done) (floor : ℕ) → IsFloor first floor → IsFloor (first ++ done ∷ []) floor
+  floor_on first done floor (inl none) = inl none
+  floor_on first done floor (inr was) =
+      inr (record {
+        counted = was.counted;
+        early = was.early;
+        between = was.between ++ done ∷ [];
+        is = ap (λ (l : List Done). l ++ done ∷ []) was.is
+            ∙ append_assoc was.early (StatsRead index was.counted ∷ was.between) (done ∷ []);
+        count = was.count;
+      })
+
+  floor_below : (first rest : List Done) (floor : ℕ) → trace ≡ first ++ rest → IsFloor first floor → floor ≤ length heap.history
+  floor_below first rest floor is (inl none) = omega (arith, none)
+  floor_below first rest floor is (inr was) =
+      let within =
+      (front_of was.counted was.early (was.between ++ rest)
+      (is ∙ (ap (λ (l : List Done). l ++ rest) was.is ∙ append_assoc was.early (StatsRead index was.counted ∷ was.between) rest))).within in
+      let count = was.count in
+      omega (arith, within, count)
+
+  floor_under : (counted : Counted) (first rest : List Done) (floor : ℕ) → trace ≡ first ++ StatsRead index counted ∷ rest
+      → IsFloor first floor → floor ≤ counted.entries
+  floor_under counted first rest floor is (inl none) = omega (arith, none)
+  floor_under counted first rest floor is (inr was) =
+      let at = reads counted first rest is in
+      let shown = at.shown was.counted was.early was.between was.is in
+      let least = rises at.before at.behind index at.pair at.steps_are shown.pair shown.among in
+      let here = ap (λ (c : Counted). c.entries) at.is in
+      let early = ap (λ (c : Counted). c.entries) shown.is in
+      let count = was.count in
+      omega (arith, least, here, early, count)
+
+  rises_on : (first rest : List Done) → trace ≡ first ++ rest → (floor : ℕ) → IsFloor first floor
+      → Rises floor (length heap.history) (entries_in rest)
+  rises_on first [] is floor its = floor_below first [] floor is its
+  rises_on first (done ∷ rest) is floor its = by_read (counted_read index done) refl
+    where
+      next : trace ≡ (first ++ done ∷ []) ++ rest
+      next = is ∙ sym (append_assoc first (done ∷ []) rest)
+
+      by_read : (read : Option Counted) → counted_read index done ≡ read → Rises floor (length heap.history) (entries_in (done ∷ rest))
+      by_read None none =
+          subst (λ (read : Option Counted). Rises floor (length heap.history) (map (λ (counted : Counted). counted.entries)
+          (cons_option read (read_in rest)))) (sym none) (rises_on (first ++ done ∷ []) rest next floor (floor_on first done floor its))
+      by_read (Some counted) some =
+          let done_is : done ≡ StatsRead index counted = read_is index done counted some in
+          let here : trace ≡ first ++ StatsRead index counted ∷ rest = is ∙ ap (λ (one : Done). first ++ one ∷ rest) done_is in
+          subst (λ (read : Option Counted). Rises floor (length heap.history) (map (λ (counted : Counted). counted.entries)
+          (cons_option read (read_in rest)))) (sym some) (
+            floor_under counted first rest floor here its,
+            rises_on (first ++ done ∷ []) rest next counted.entries
+                (inr (record {
+                  counted = counted;
+                  early = first;
+                  between = [];
+                  is = ap (λ (one : Done). first ++ one ∷ []) done_is;
+                  count = refl;
+                })),
+          )
+
+  -- so they are handed
+  pub stats_handed : ((counted : Counted) (first rest : List Done) → IsReadAt who heap.plain.index first rest counted steps
+      → IsOfFront who heap.plain.index first rest counted.entries heap.history) → AreStatsHanded who trace heap
+  stats_handed of = record {
+    fronts = fronts_on [] trace refl;
+    rising = (seen_rising (length heap.history) (entries_in trace) (rises_on [] trace refl 0 (inl refl))).rising;
+    own = λ first counted comes.
+        hold_calls who index first comes.0 counted.entries heap.history
+        (of counted first comes.0 (reads counted first comes.0 comes.1));
+  }
