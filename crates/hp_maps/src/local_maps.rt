@@ -178,7 +178,7 @@ impl<M: Mapper> LocalMaps<M> {
             newer,
         );
         let before = self.calls;
-        let caught = self.take_in_log(records, to);
+        let caught = self.catch_up_untold(records, to);
         tell_caught(
             tell,
             &self.mapper,
@@ -190,8 +190,8 @@ impl<M: Mapper> LocalMaps<M> {
         caught
     }
 
-    // Takes in the records up to number `to`, and tells nothing.
-    fn take_in_log(&mut self, records: &[LogRecord], to: u64) -> Caught
+    /// Catches up with the log as `catch_up` does, and tells nobody: no row is looked at to be told. After eal_memalloc_sync_with_primary.
+    pub fn catch_up_untold(&mut self, records: &[LogRecord], to: u64) -> Caught
         requires { CanCatchUp self.old records.now to }
         ensures rows { self.new.rows
             ≡ rows_after (kept (newer records.now self.old.number to) self.old.rows)

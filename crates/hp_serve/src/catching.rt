@@ -13,7 +13,7 @@ ghost use Rattle.hp_hall.specs.Mail.{HasInHand};
 ghost use Rattle.hp_serve.specs.SegmentSlot.{MayCatchUp, StaysButOwn};
 
 use crate::calls::tell_number;
-use hp_base::{Caught, Mapper, Silent};
+use hp_base::{Caught, Mapper};
 use hp_events::Watchers;
 use hp_hall::Hall;
 use hp_log::LogRecord;
@@ -93,7 +93,6 @@ pub(crate) fn catch_up<M: Mapper>(
 ) -> Caught
     requires can { CanCatchUp maps.old records.now (length records.now) }
     requires spare { most_told records.now maps.old ≤ watchers.old.spare }
-    requires few { most_told records.now maps.old ≤ 2 ^ 64 }
     ensures caught { CatchesUp records.now maps.old maps.new result }
     ensures told { watchers.new.listeners ≡ told_of records.now result maps.old watchers.old.listeners }
     ensures table { is_done result ≡ true → table_in maps.new.rows ≡ table_at records.now (length records.now) }
@@ -102,11 +101,9 @@ pub(crate) fn catch_up<M: Mapper>(
 {
     let to = records.len() as u64;
     if watchers.len() == 0 {
-        let unheard = maps.catch_up(records, to, &mut Silent);
-        return unheard;
+        return maps.catch_up_untold(records, to);
     }
-    let heard = maps.catch_up(records, to, watchers);
-    heard
+    maps.catch_up(records, to, watchers)
 }
 
 /// Takes the whole log of the segment value in, tells the watchers of that, and the hall how far the table has come. `joined` says whether

@@ -1,5 +1,5 @@
 //! Messages to the handler of growths as frames.
-ghost use Rattle.std.specs.Prelude.{◌≡◌, MatchOption};
+ghost use Rattle.std.specs.Prelude.{◌≡◌, MatchOption, false, true};
 ghost use Rattle.hp_frame.specs.Spelling.{HasFieldValues};
 ghost use Rattle.hp_serve.specs.Frames.{Says, SaysNothing, handler_name};
 
@@ -27,13 +27,31 @@ pub fn framed(body: Body) -> Frame
     })
 }
 
+// Whether a name is the handler's. It is looked at byte by byte, which is less work than a search for a difference.
+fn is_handler(name: &[u8]) -> bool
+    ensures same { result ≡ true → name.now ≡ handler_name }
+    ensures other { result ≡ false → name.now ≡ handler_name → ⊥ }
+{
+    match name {
+        [first, second, third, fourth, fifth, sixth] => {
+            *first == HANDLER[0]
+                && *second == HANDLER[1]
+                && *third == HANDLER[2]
+                && *fourth == HANDLER[3]
+                && *fifth == HANDLER[4]
+                && *sixth == HANDLER[5]
+        }
+        _ => false,
+    }
+}
+
 /// What a frame says to the handler. It is `None` where the frame doesn't read, or has another name.
 pub(crate) fn parse_frame(frame: &Frame) -> Option<Body>
     ensures { MatchOption result (SaysNothing frame.now) (λ body. Says frame.now body) }
 {
     match read(frame.as_bytes()) {
         Ok(view) => {
-            if view.name() == HANDLER.as_slice() {
+            if is_handler(view.name()) {
                 Some(view.body())
             } else {
                 None

@@ -41,18 +41,6 @@ catch_up-caught-requires-clause-spare g c =
     let room = c.requires.room in
     omega (arith, told, room, ap length c.records-records.ensures.records)
 
-pub catch_up-caught-requires-clause-few : goal.catch_up-caught-requires-clause-few
-catch_up-caught-requires-clause-few g c =
-    let segs = c.args.segs.now in
-    let records = c.records-records.result.now in
-    let sound = c.records-records.ensures.sound in
-    let few : slots_in (places_of segs.pools) ≤ 16384 = omega (arith, c.log_law.ensures.few segs sound) in
-    let told =
-    tells_one_a_record (places_of segs.pools) c.args.maps.now records (length records) Done
-    (tied_can (places_of segs.pools) segs.log records ((g.H.Hall.state c.args.hall.now).own c.args.me) c.args.joined c.args.maps.now
-    c.records-records.ensures.records (c.log_law.ensures.placed segs sound) few c.requires.tied c.requires.calls) in
-    omega (arith, told, c.records-records.type_inv.1)
-
 pub returns-then-is_done-clause-told : goal.returns-then-is_done-clause-told
 returns-then-is_done-clause-told g c =
     subst

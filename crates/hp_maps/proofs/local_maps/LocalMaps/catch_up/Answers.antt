@@ -29,27 +29,27 @@ tell_caught-requires-clause-held g c =
 
 pub returns-clause-told : goal.returns-clause-told
 returns-clause-told g c =
-    caught_told c.args.self.now c.take_in_log-caught.new.self c.as_slice.result.now c.as_slice-2.result.now c.self.inside.calls c.self-2.inside.calls
-    (newer c.args.records.now c.args.self.now.number c.args.to) _ c.take_in_log-caught.result _ _ _
+    caught_told c.args.self.now c.catch_up_untold-caught.new.self c.as_slice.result.now c.as_slice-2.result.now c.self.inside.calls c.self-2.inside.calls
+    (newer c.args.records.now c.args.self.now.number c.args.to) _ c.catch_up_untold-caught.result _ _ _
     (c.as_slice.ensures ∙ ap (λ (maps : MapsView). maps.rows) c.self.view_is)
     (c.as_slice-2.ensures ∙ ap (λ (maps : MapsView). maps.rows) c.self-2.view_is)
     (c.self.invariant.counted ∙ ap calls_of c.self.view_is)
     (c.self-2.invariant.counted ∙ ap calls_of c.self-2.view_is)
     (ap (λ (maps : MapsView). newer c.args.records.now maps.number c.args.to) c.self.view_is)
-    c.take_in_log-caught.ensures.rows c.take_in_log-caught.ensures.answered c.tell_dropped.ensures.told c.tell_caught.ensures.told
+    c.catch_up_untold-caught.ensures.rows c.catch_up_untold-caught.ensures.answered c.tell_dropped.ensures.told c.tell_caught.ensures.told
 
 pub returns-clause-spare : goal.returns-clause-spare
 returns-clause-spare g c =
-    caught_spare c.args.self.now c.take_in_log-caught.new.self c.as_slice.result.now c.as_slice-2.result.now c.self.inside.calls c.self-2.inside.calls
-    (newer c.args.records.now c.args.self.now.number c.args.to) _ c.take_in_log-caught.result _ _ _
+    caught_spare c.args.self.now c.catch_up_untold-caught.new.self c.as_slice.result.now c.as_slice-2.result.now c.self.inside.calls c.self-2.inside.calls
+    (newer c.args.records.now c.args.self.now.number c.args.to) _ c.catch_up_untold-caught.result _ _ _
     (c.as_slice.ensures ∙ ap (λ (maps : MapsView). maps.rows) c.self.view_is)
     (c.as_slice-2.ensures ∙ ap (λ (maps : MapsView). maps.rows) c.self-2.view_is)
     (c.self.invariant.counted ∙ ap calls_of c.self.view_is)
     (c.self-2.invariant.counted ∙ ap calls_of c.self-2.view_is)
     (ap (λ (maps : MapsView). newer c.args.records.now maps.number c.args.to) c.self.view_is)
-    c.take_in_log-caught.ensures.rows c.take_in_log-caught.ensures.answered c.tell_dropped.ensures.spare c.tell_caught.ensures.spare
+    c.catch_up_untold-caught.ensures.rows c.catch_up_untold-caught.ensures.answered c.tell_dropped.ensures.spare c.tell_caught.ensures.spare
 
 pub returns-clause-known : goal.returns-clause-known
 returns-clause-known g c =
-    known_caught c.args.self.now c.args.records.now c.args.to c.take_in_log-caught.result c.take_in_log-caught.new.self.rows _ _
-    c.take_in_log-caught.ensures.rows (returns-clause-told g c)
+    known_caught c.args.self.now c.args.records.now c.args.to c.catch_up_untold-caught.result c.catch_up_untold-caught.new.self.rows _ _
+    c.catch_up_untold-caught.ensures.rows (returns-clause-told g c)

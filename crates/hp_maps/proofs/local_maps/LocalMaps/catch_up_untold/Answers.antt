@@ -4,7 +4,7 @@ use Rattle.hp_maps.specs.Catching.{CanCatchUp}
 use Rattle.hp_maps.specs.MapsView.{MapsView, chunk_rows}
 use Rattle.hp_maps.proofs.CatchLemmas.{apart_after, can_take_in, chunks_after, lags_after, near_after, room_after, table_after_catching}
 use Rattle.hp_maps.proofs.SlotLemmas.{own_slots}
-use Rattle.hp_maps.proofs.local_maps.LocalMaps.take_in_log.Goals as goal
+use Rattle.hp_maps.proofs.local_maps.LocalMaps.catch_up_untold.Goals as goal
 
 pub take_in-caught-requires-clause-can : goal.take_in-caught-requires-clause-can
 take_in-caught-requires-clause-can g c =
