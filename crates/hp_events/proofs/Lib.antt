@@ -1,4 +1,4 @@
-mod ListFacts
+pub mod ListFacts
 mod RoomLemmas
 mod RefusalLemmas
 pub mod AnswerLemmas

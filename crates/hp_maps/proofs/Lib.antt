@@ -14,10 +14,10 @@ pub mod CatchLemmas
 pub mod EventFacts
 mod EndLemmas
 pub mod LawLemmas
-mod ChunkLemmas
+pub mod ChunkLemmas
 mod LeaveLemmas
 mod StayLemmas
-mod BesideLemmas
+pub mod BesideLemmas
 pub mod ReadyLemmas
 mod TurnLemmas
 mod SlotLemmas

@@ -30,6 +30,7 @@ pub mod Noted
 pub mod OrdinaryElements
 pub mod PagesStay
 pub mod Plans
+mod PoolsFrom
 mod Registered
 mod RegisteredHere
 pub mod RegisteredLines

@@ -1,6 +1,6 @@
 //! The page sizes for which memory is asked, and what flags say of them.
-ghost use Rattle.std.specs.Prelude.{◌≡◌, ◌++◌, ◌&&◌, not, IfOk, OnOk};
-ghost use Rattle.std.specs.List.{filter};
+ghost use Rattle.std.specs.Prelude.{◌≡◌, ◌≤◌, ◌==◌, ◌++◌, ◌&&◌, ℕ, length, not, IfOk, OnOk};
+ghost use Rattle.std.specs.List.{filter, position_or_len};
 ghost use Rattle.hp_base.specs.Pages.{page_sizes};
 ghost use Rattle.hp_base.specs.Flags.{names_page};
 ghost use Rattle.hp_proc.specs.Allocating.{first_flags, with_hint, without_hint};
@@ -16,6 +16,23 @@ fn has_pool(pools: &[PoolLine], socket: u32, page: u64) -> bool
     pools
         .iter()
         .any(|line| line.socket == socket && line.page == page)
+}
+
+// The place of the first pool line that names the socket, or that after all.
+fn first_of(pools: &[PoolLine], socket: u32) -> usize
+    ensures place { result ≡ position_or_len (λ line. line.socket == socket) pools.now }
+    ensures within { result ≤ length pools.now }
+{
+    let place = pools.iter().position(|line| line.socket == socket);
+    place.unwrap_or(pools.len())
+}
+
+// The pool lines from the first that names the socket on. Lines before it name no page size of that socket.
+fn lines_from(pools: &[PoolLine], socket: u32) -> &[PoolLine]
+    ensures { (page : ℕ) → has_pool result.now socket page ≡ has_pool pools.now socket page }
+{
+    let first = first_of(pools, socket);
+    &pools[first..]
 }
 
 // Flags without the bit by which their page sizes are a hint alone.
@@ -82,8 +99,9 @@ fn push_others(
     ensures { OnOk result (pages.new.items
         ≡ pages.old.items ++ filter (λ page. has_pool pools.now socket page && not (names_page flags page)) page_sizes) }
 {
+    let own = lines_from(pools, socket);
     for page in PAGE_SIZES {
-        if is_other(pools, socket, flags, page) {
+        if is_other(own, socket, flags, page) {
             pages.push(page)?;
         }
     }
