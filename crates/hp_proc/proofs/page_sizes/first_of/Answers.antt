@@ -11,6 +11,6 @@ returns c =
     = position_from_yields_List (is_of c.args.socket) _ _ c.position-place.result c.position-place.ensures.ran (YieldsList-from_slice _ c.iter.ensures.rest) (λ x b q k. search (rules, tests)) in
     let is : c.unwrap_or.result ≡ position_or_len (is_of c.args.socket) c.args.pools.now
     = c.unwrap_or.ensures
-        ∙ ap (λ (o : Option ℕ). unwrap_or o (length c.args.pools.now)) at
-        ∙ first_or_end c.args.socket c.args.pools.now in
+    ∙ ap (λ (o : Option ℕ). unwrap_or o (length c.args.pools.now)) at
+    ∙ first_or_end c.args.socket c.args.pools.now in
     record { place = is; within = omega (arith, is, first_within c.args.socket c.args.pools.now) }

@@ -9,8 +9,8 @@ use Rattle.hp_proc.proofs.page_sizes.push_others.Goals as goal
 pub loop-page-preserved : goal.loop-page-preserved
 loop-page-preserved c =
     let passes : (page : ℕ)
-        → (has_pool c.args.pools.now c.args.socket page && not (names_page c.args.flags page))
-        ≡ (has_pool c.lines_from-own.result.now c.args.socket page && not (names_page c.args.flags page))
+    → (has_pool c.args.pools.now c.args.socket page && not (names_page c.args.flags page))
+    ≡ (has_pool c.lines_from-own.result.now c.args.socket page && not (names_page c.args.flags page))
     = λ page. ap (λ (has : Bool). has && not (names_page c.args.flags page)) (sym (c.lines_from-own.ensures page)) in
     elim c.if-is_other.branch [
       | then-is_other+in_ok-push w ↦
