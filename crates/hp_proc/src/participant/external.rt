@@ -11,11 +11,11 @@ ghost use Rattle.hp_proc.specs.LineTrees.{doing_held, doing_named};
 ghost use Rattle.hp_proc.specs.MarksInHand.{HoldsNamedMarked, KeepsMarked};
 ghost use Rattle.hp_proc.specs.NamesInHand.{DoesNamed, DoesNamedHeld, DoesNamedOnce, HaltsNamed, HaltsNamedHeld, HaltsNamedOnce, IsIndexMeant, IsReadyNamed};
 ghost use Rattle.hp_serve.specs.Clocks.{RisesWithin};
-ghost use Rattle.hp_zone.specs.Directory.{IsDirectory};
 
 use super::Participant;
 use super::chunk_lines::left_answer;
 use super::memory_lines::{destroy_answer, made_answer};
+use super::names::are_sound;
 use hp_base::Mapper;
 use hp_external::{ChunkFault, CreateFault, NameFault, chunk_heap, external_heap, place_for};
 use hp_hall::Waiting;
@@ -74,6 +74,7 @@ fn heap_meant(names: &Names, text: &[u8]) -> Result<u32, Answer>
     ensures heap { IfOk result (λ index. IsMeant names.now.heaps.plain text.now index) }
     ensures refused { IfErr result (IsNameAnswer names.now.heaps.plain text.now) }
 {
+    are_sound(names);
     match external_heap(&names.heaps, text) {
         Ok((index, _socket)) => Ok(index),
         Err(fault) => Err(name_answer(fault)),
@@ -85,6 +86,7 @@ fn chunks_meant(names: &Names, text: &[u8]) -> Result<u32, Answer>
     ensures heap { IfOk result (λ index. IsMeant names.now.heaps.plain text.now index) }
     ensures refused { IfErr result (IsChunkAnswer names.now.heaps.plain text.now) }
 {
+    are_sound(names);
     match chunk_heap(&names.heaps, text) {
         Ok(index) => Ok(index),
         Err(fault) => Err(chunk_answer(fault)),
@@ -94,7 +96,6 @@ fn chunks_meant(names: &Names, text: &[u8]) -> Result<u32, Answer>
 // The index of the heap that a line on external heaps means, or the line's answer where it means none.
 fn index_meant(names: &Names, act: &Act<'_>) -> Result<u32, Answer>
     requires external { IsExternalAct act.now }
-    requires sound { IsDirectory names.now.heaps }
     ensures { IsHeapMeant act.now names.now.heaps.plain result }
 {
     match act {
