@@ -1,5 +1,6 @@
 -- A participant that has the names in hand, alone and beside a heap: the lock order of docs/PARTICIPANTS.md.
 use Rattle.std.specs.Prelude.{◌≡◌, ℕ, ◌==◌, List, [], ◌∷◌, Ok, Some, None, true, if◌then◌else◌}
+use Rattle.std.specs.Option.{option_map}
 use Rattle.hp_hall.specs.Giving.{IsGiveOf}
 use Rattle.hp_hall.specs.HallState.{Did, HallState, OthersStay, SlotsStayBut, known_to}
 use Rattle.hp_hall.specs.Holding.{AgreeWith, HeapPart}
@@ -25,10 +26,10 @@ use Rattle.hp_serve.specs.Serving.{gives_segments, takes_segments}
 use Rattle.hp_zone.specs.Directory.{PlainDirectory}
 use Rattle.hp_zone.specs.declared.names.Names.{Names as NamesView}
 
--- parts with what the names speak of a heap in hand, as it is by now
+-- parts with what the names speak of a heap in hand, as it is by now, where that is known
 abbrev pub with_naming : HeapView → (ℕ → HeapPart) → ℕ → HeapPart
 with_naming heap parts index =
-    if index == heap.plain.index then record (parts index) { naming = Some (naming_of heap.plain) } else parts index
+    if index == heap.plain.index then record (parts index) { naming = option_map (λ naming. naming_of heap.plain) (parts index).naming } else parts index
 
 -- it has the names in hand, as they are by now: they were taken, as its steps tell, they are sound, they go on from the taken ones, and all other
 -- slots are free; they opened with the heaps of the pools' sockets
