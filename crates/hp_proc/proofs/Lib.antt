@@ -23,6 +23,7 @@ mod MarksApart
 mod MayAttachHere
 pub mod MeantHeaps
 pub mod NamesFollow
+pub mod NamesAround
 mod NamesHeld
 mod NamesRead
 pub mod NotedCame

@@ -3,13 +3,14 @@ use Rattle.std.specs.Prelude.{◌≡◌, ℕ, ◌+◌, ◌==◌, List, [], ◌�
 use Rattle.hp_hall.specs.Giving.{IsGiveOf}
 use Rattle.hp_hall.specs.HallState.{Did, HallState, OthersStay, SlotsStayBut, known_to}
 use Rattle.hp_hall.specs.Holding.{AgreeWith, HeapPart}
-use Rattle.hp_hall.specs.Named.{NamesGoOn, seen_of_names}
+use Rattle.hp_hall.specs.Named.{GivesNames}
 use Rattle.hp_hall.specs.Naming.{naming_of}
 use Rattle.hp_hall.specs.Telling.{has_names}
 use Rattle.hp_hall.specs.Values.{IsSoundKept}
 use Rattle.hp_hall.specs.declared.kept.Kept.TheVariants.{Names}
 use Rattle.hp_hall.specs.declared.slot.TheConstants.{NAMES_SLOT}
 use Rattle.hp_heap.specs.History.{HeapView}
+use Rattle.hp_heap.specs.declared.entry.Entry.{Entry}
 use Rattle.hp_proc.specs.Acting.{Acts}
 use Rattle.hp_proc.specs.Courses.{calls_in}
 use Rattle.hp_proc.specs.Doing.{Doing, Done, Leads}
@@ -33,15 +34,19 @@ abbrev pub with_naming : HeapView → (ℕ → HeapPart) → ℕ → HeapPart
 with_naming heap parts index =
     if index == heap.plain.index then record (parts index) { naming = Some (naming_of heap.plain) } else parts index
 
--- it has the names in hand, as they are by now: they were taken, as its steps tell, they are sound, they go on from the taken ones, and all other
--- slots are free
+-- its entries in the heaps, as it gave them back last
+abbrev pub entries_in : ℕ → HallState → ℕ → List Entry
+entries_in me state heap = (state.part me heap).entries
+
+-- it has the names in hand, as they are by now: they were taken, as its steps tell, they are sound, they may be given in place of the taken ones,
+-- since each memzone that came in lies where an allocation of its own is home, and all other slots are free
 pub record IsReadyNamed (me : ℕ) (doer : ParticipantView) (names : NamesView) (state : HallState) : Type 0 where
   pub but : IsReadyBut NAMES_SLOT me doer state
   pub told : has_names (state.done me) ≡ true
   pub was : NamesView
   pub taken : state.taken NAMES_SLOT ≡ Some (Names was)
   pub sound : IsSoundKept (Names names)
-  pub goes_on : NamesGoOn (seen_of_names was) (seen_of_names names)
+  pub goes_on : GivesNames (entries_in me state) was names
   pub agrees : AgreeWith (state.part me) names
 
 -- it has the names and a heap in hand; they agree but for what they say of that heap and of its memory
@@ -51,7 +56,7 @@ pub record HoldsNamed (me : ℕ) (doer : ParticipantView) (names : NamesView) (h
   pub was : NamesView
   pub taken : state.taken NAMES_SLOT ≡ Some (Names was)
   pub sound : IsSoundKept (Names names)
-  pub goes_on : NamesGoOn (seen_of_names was) (seen_of_names names)
+  pub goes_on : GivesNames (entries_in me state) was names
   pub agrees : AgreeWith (with_naming heap (state.part me)) names
 
 -- names that agreed with what it knew agree with what it knows
