@@ -6,7 +6,7 @@ use Rattle.hp_hall.specs.Giving.{GivesFor, IsGiveOf}
 use Rattle.hp_hall.specs.HallCalls.{HasGiven}
 use Rattle.hp_hall.specs.HallState.{Did, HallState, OthersStay, SlotsStayBut, known_to}
 use Rattle.hp_hall.specs.Mail.{Gives, MailStep, Takes}
-use Rattle.hp_hall.specs.Named.{GivesNames, IsAllocated}
+use Rattle.hp_hall.specs.Named.{GivesNames, IsAllocated, NamesSeen}
 use Rattle.hp_hall.specs.declared.kept.Kept.{Kept}
 use Rattle.hp_hall.specs.declared.kept.Kept.TheVariants.{Names}
 use Rattle.hp_hall.specs.declared.slot.TheConstants.{NAMES_SLOT}
@@ -51,6 +51,7 @@ named_ready {me} {doer} {mid} {names} {from} {at} held =
       sound = held.sound;
       goes_on = gives.names;
       agrees = gives.agrees;
+      sockets = ap (λ (seen : NamesSeen). seen.sockets) held.seen ∙ held.but.named;
     }
 
 -- and may give them back
