@@ -4,7 +4,7 @@ ghost use Rattle.hp_base.specs.declared.limits.TheConstants.{MAX_HEAPS};
 ghost use Rattle.hp_external.specs.Creating.{IsPlaceFor};
 ghost use Rattle.hp_hall.specs.HallState.{IsBusy};
 ghost use Rattle.hp_proc.specs.Doing.{Doing};
-ghost use Rattle.hp_proc.specs.ExternalAnswers.{IsChunkAnswer, IsCreateAnswer, IsExternalAct, IsHeapMeant, IsMeant, IsNameAnswer, chunk_said, create_said, name_said};
+ghost use Rattle.hp_proc.specs.ExternalAnswers.{IsChunkAnswer, IsCreateAnswer, IsExternalAct, IsHeapMeant, IsMeant, IsNameAnswer, IsNamedHeap, chunk_said, create_said, name_said};
 ghost use Rattle.hp_proc.specs.Handing.{shared_of};
 ghost use Rattle.hp_proc.specs.LineInHall.{DoesLineHere, HaltsLineHere, HasRoom, IsReadyAgain, IsReadyIn};
 ghost use Rattle.hp_proc.specs.LineTrees.{doing_held, doing_named};
@@ -71,7 +71,7 @@ fn place_meant(names: &Names, text: &[u8]) -> Result<u32, Answer>
 
 // The index of the external heap of that name, or the line's answer.
 fn heap_meant(names: &Names, text: &[u8]) -> Result<u32, Answer>
-    ensures heap { IfOk result (λ index. IsMeant names.now.heaps.plain text.now index) }
+    ensures heap { IfOk result (IsNamedHeap names.now.heaps.plain text.now) }
     ensures refused { IfErr result (IsNameAnswer names.now.heaps.plain text.now) }
 {
     are_sound(names);
@@ -83,7 +83,7 @@ fn heap_meant(names: &Names, text: &[u8]) -> Result<u32, Answer>
 
 // The index of the heap of that name whose chunks may be attached, or the line's answer.
 fn chunks_meant(names: &Names, text: &[u8]) -> Result<u32, Answer>
-    ensures heap { IfOk result (λ index. IsMeant names.now.heaps.plain text.now index) }
+    ensures heap { IfOk result (IsMeant names.now.heaps.plain text.now) }
     ensures refused { IfErr result (IsChunkAnswer names.now.heaps.plain text.now) }
 {
     are_sound(names);
