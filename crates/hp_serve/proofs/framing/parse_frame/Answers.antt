@@ -2,9 +2,6 @@
 use Rattle.std.proofs.Common.{sym, subst}
 use Rattle.hp_frame.specs.Spelling.{Spells}
 use Rattle.hp_serve.specs.Frames.{to_handler}
-use Rattle.hp_serve.proofs.AttachReady.{may_attach}
-use Rattle.hp_serve.proofs.ChunksTied.{tied_left}
-use Rattle.hp_serve.proofs.ChunksMarked.{has_left}
 use Rattle.hp_serve.proofs.framing.parse_frame.Goals as goal
 
 pub returns-in-Err : goal.returns-in-Err
