@@ -3,6 +3,7 @@ pub mod AllocFacts
 pub mod AttachedLines
 pub mod HandFacts
 pub mod ChosenHeaps
+pub mod ChunkLies
 mod ChunksLeft
 pub mod Continued
 pub mod FoundZones
