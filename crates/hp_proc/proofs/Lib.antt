@@ -32,6 +32,7 @@ pub mod NotedLeft
 pub mod Noted
 pub mod OrdinaryElements
 pub mod PagesStay
+pub mod PlacesRead
 pub mod Plans
 mod PoolsFrom
 mod Registered

@@ -1,7 +1,5 @@
 -- What a participant does that reads the names, or the newest statistics of a heap.
 use Rattle.std.proofs.Common.{◌≡◌, ◌∙◌, ℕ, ◌++◌, ◌<◌, List, [], ◌∷◌, map, append-nil, append_assoc, Option, Some, None, refl, ap, sym, subst, arith}
-use Rattle.std.specs.Prelude.{IfSome}
-use Rattle.std.proofs.lemmas.Option.{slice_get_within}
 use Rattle.hp_base.specs.declared.limits.TheConstants.{MAX_HEAPS}
 use Rattle.hp_hall.specs.HallCalls.{HasGiven}
 use Rattle.hp_hall.specs.HallState.{Did, HallState, OthersStay, SlotsStayBut}
@@ -9,14 +7,14 @@ use Rattle.hp_hall.specs.Mail.{Gives, MailStep, Takes}
 use Rattle.hp_hall.specs.declared.kept.Kept.TheVariants.{Names}
 use Rattle.hp_hall.specs.declared.slot.TheConstants.{NAMES_SLOT}
 use Rattle.hp_hall.proofs.HallStates.{did_then, later_then}
-use Rattle.hp_zone.specs.Directory.{DirectoryView, IsDirectory, directory_after, opening}
+use Rattle.hp_zone.specs.Directory.{IsDirectory, directory_after, opening}
 use Rattle.hp_zone.specs.declared.names.Names.{Names as NamesView}
 use Rattle.hp_proc.specs.Acting.{Acts, AreAsked}
 use Rattle.hp_proc.specs.Doing.{Doing, Goes, Leads}
 use Rattle.hp_proc.specs.Doing.Done.{NamesRead}
 use Rattle.hp_proc.specs.Handing.{shared_of}
 use Rattle.hp_proc.specs.Heaps.{sockets_of}
-use Rattle.hp_proc.specs.LineInHall.{DoesHere, HoldsNames, IsNameIn, IsReadyAgain}
+use Rattle.hp_proc.specs.LineInHall.{DoesHere, HoldsNames, IsReadyAgain}
 use Rattle.hp_proc.specs.Lines.{reading_names}
 use Rattle.hp_proc.specs.ParticipantView.{ParticipantView}
 use Rattle.hp_proc.specs.SharedNames.{SharedNames, directory_in}
@@ -25,13 +23,6 @@ use Rattle.hp_proc.proofs.LinesInHall.{idle_again}
 use Rattle.hp_proc.proofs.NamesHeld.{ready_beside}
 use Rattle.hp_serve.proofs.InHalls.{tied_later}
 use Rattle.hp_proc.specs.OwnChunks.{own_chunk}
-
--- a heap that has a name is one of the directory
-pub within : (view : DirectoryView) (text : List ℕ) (found : Option ℕ) → IsDirectory view → IsNameIn view.plain text found
-    → IfSome found (λ index. index < MAX_HEAPS)
-within view text None is named = tt
-within view text (Some index) is named =
-    omega (arith, slice_get_within view.plain.heaps index (Some named.1.heap) named.1.there, is.indexes)
 
 -- the directory that is in hand is that which the names leave of the pools' sockets
 pub as_leaves : (doer : ParticipantView) (names : NamesView) → IsDirectory names.heaps → names.heaps.sockets ≡ sockets_of doer.context.pools
