@@ -23,6 +23,7 @@ pub mod Mapped
 mod MarksApart
 mod MayAttachHere
 pub mod MeantHeaps
+pub mod NamedPlaces
 pub mod NamesFollow
 pub mod NamesAround
 mod NamesHeld
