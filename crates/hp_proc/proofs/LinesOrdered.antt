@@ -302,5 +302,5 @@ module _ (count : ℕ) where
 
   pub halts_ordered : {last : Option ℕ} {held : List ℕ} {doer after : ParticipantView} {trace : List Done} {steps : List MailStep}
       → ActsOn count None last held doer after trace steps → IsInLockOrder steps
-  halts_ordered {last} {held} {doer} {after} {trace} {steps} acts =
-      ordered_from [] (slots last false) steps (on_along false None last held doer after trace steps acts tt (quiet_none held trace)).0
+  halts_ordered {last} {held} {doer} {after} {trace} {steps} stopped =
+      ordered_from [] (slots last false) steps (on_along false None last held doer after trace steps stopped tt (quiet_none held trace)).0

@@ -1,5 +1,5 @@
 -- A line that has the names in hand while it does more: it took them, did that, and gave them back.
-use Rattle.std.proofs.Common.{◌≡◌, ◌∙◌, ℕ, ◌+◌, List, [], ◌∷◌, ◌++◌, append_assoc, length, Option, Some, None, refl, ap, sym, subst, arith}
+use Rattle.std.proofs.Common.{◌≡◌, ◌∙◌, ℕ, ◌+◌, List, [], ◌∷◌, ◌++◌, append_assoc, length, map, Option, Some, None, refl, ap, sym, subst, arith}
 use Rattle.std.specs.List.{Contains}
 use Rattle.std.proofs.lemmas.List.Elements.{Contains-append_left}
 use Rattle.hp_hall.specs.Giving.{GivesFor, IsGiveOf}
@@ -76,7 +76,7 @@ names_give_on {old} {new} grow gives = record {
     allocated_on entries more is =
         record { entry = is.entry; there = Contains-append_left entries more is.entry is.there; at = is.at }
 
-module _ {doer mid new : ParticipantView} {names given : NamesView} {from at between to : HallState}
+module _ {doer mid : ParticipantView} {names given : NamesView} {from at between to : HallState}
     (held : HoldsNames doer.party.me doer mid names from at) (gave : HasGiven doer.party.me NAMES_SLOT (Names given) between to)
     (slots : SlotsStayBut NAMES_SLOT between to) (others : OthersStay doer.party.me between to) where
   abbrev me : ℕ
@@ -92,7 +92,7 @@ module _ {doer mid new : ParticipantView} {names given : NamesView} {from at bet
       (append_assoc held.waited (Takes NAMES_SLOT (Names names) ∷ []) (steps ++ Gives NAMES_SLOT (Names given) ∷ []))
       (did_then held.did (did_then did gave.did))
 
-  module _ (trace : List Done)
+  module _ {new : ParticipantView} (trace : List Done)
       (made : (heap : ℕ) → (between.part me heap).entries
       ≡ (at.part me heap).entries ++ entries_for mid.party.me heap (mid.context.calls + 1) (calls_in trace))
       (counted : new.context ≡ record (after_calls (length (calls_in trace)) mid.context) { standing = new.context.standing }) where
@@ -110,11 +110,11 @@ module _ {doer mid new : ParticipantView} {names given : NamesView} {from at bet
         held.context counted
 
   -- what it did is what reading the names leads to
-  pub does_around : {heaps : List ℕ} (goes : SharedNames → Doing) (rest : Doing)
+  pub does_around : {new : ParticipantView} {heaps : List ℕ} (goes : SharedNames → Doing) (rest : Doing)
       → (did : DoesNamed heaps me mid new names given at between (goes (shared_of names)) rest)
       → DoesHere heaps me doer new from to (reading_names goes) rest
   unfolding Leads Goes AreAsked
-  does_around {heaps} goes rest did =
+  does_around {new} {heaps} goes rest did =
       let does = did.does in
       let behind = others.later.seen me in
       let heard = others.later.heard me in
@@ -153,11 +153,11 @@ module _ {doer mid new : ParticipantView} {names given : NamesView} {from at bet
       }
 
   -- so is what it did where it stopped
-  pub halts_around : {heaps : List ℕ} (goes : SharedNames → Doing)
+  pub halts_around : {new : ParticipantView} {heaps : List ℕ} (goes : SharedNames → Doing)
       → (did : HaltsNamed heaps me mid new names given at between (goes (shared_of names)))
       → HaltsHere heaps me doer new from to (reading_names goes)
   unfolding Leads Goes
-  halts_around {heaps} goes did =
+  halts_around {new} {heaps} goes did =
       let halts = did.halts in
       record {
         rest = halts.rest;
@@ -177,8 +177,8 @@ module _ {doer mid new : ParticipantView} {names given : NamesView} {from at bet
       }
 
   -- and it is ready for its next line
-  pub ready_around : IsReadyNamed me new given between → IsReadyIn me new to
-  ready_around ready =
+  pub ready_around : {new : ParticipantView} → IsReadyNamed me new given between → IsReadyIn me new to
+  ready_around {new} ready =
       let but = ready.but in
       let more = others.later.heard me in
       record {
