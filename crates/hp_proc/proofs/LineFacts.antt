@@ -162,6 +162,8 @@ leaves_standing line _ none given trace standing =
 -- so does one that is answered by who is not attached
 detached_leaves : (line : Line) (deed : Act) (trace : List Done) (standing : Standing)
     → standing_left line deed answer.Detached trace standing ≡ standing
+detached_leaves line act.Attach trace standing =
+    ap (λ (elements : List OwnElement). record standing { elements = elements }) (append-nil standing.elements)
 detached_leaves line _ trace standing =
     ap (λ (elements : List OwnElement). record standing { elements = elements }) (append-nil standing.elements)
 

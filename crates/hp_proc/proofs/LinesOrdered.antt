@@ -12,6 +12,7 @@ use Rattle.hp_frame.specs.declared.message.Message.{Message}
 use Rattle.hp_frame.specs.declared.message.Body.TheVariants.{Free}
 use Rattle.hp_hall.specs.Mail.{MailStep, Fetches, Gives, Notes, Posts, Takes}
 use Rattle.hp_hall.specs.declared.kept.Kept.{Kept}
+use Rattle.hp_hall.specs.declared.kept.Kept.TheVariants.{Names}
 use Rattle.hp_hall.specs.declared.slot.TheConstants.{NAMES_SLOT}
 use Rattle.hp_base.specs.declared.plan.Action.{Action}
 use Rattle.hp_mail.specs.declared.posted.Posted.{Posted}
@@ -284,7 +285,7 @@ module _ (count : ℕ) where
       (
         (
           comes_suits.names _,
-          along_both ComesAfterHand (NAMES_SLOT ∷ []) (NAMES_SLOT ∷ []) [] steps _ inner.0 (tt, names_given),
+          along_both ComesAfterHand (NAMES_SLOT ∷ []) (NAMES_SLOT ∷ []) [] steps (Gives NAMES_SLOT (Names given) ∷ []) inner.0 (tt, names_given),
         ),
         tt,
       )

@@ -92,22 +92,23 @@ module _ {doer mid : ParticipantView} {names given : NamesView} {from at between
       (append_assoc held.waited (Takes NAMES_SLOT (Names names) ∷ []) (steps ++ Gives NAMES_SLOT (Names given) ∷ []))
       (did_then held.did (did_then did gave.did))
 
-  module _ {new : ParticipantView} (trace : List Done)
-      (made : (heap : ℕ) → (between.part me heap).entries
+  around_entries : (trace : List Done)
+      → ((heap : ℕ) → (between.part me heap).entries
       ≡ (at.part me heap).entries ++ entries_for mid.party.me heap (mid.context.calls + 1) (calls_in trace))
-      (counted : new.context ≡ record (after_calls (length (calls_in trace)) mid.context) { standing = new.context.standing }) where
-    around_entries : (heap : ℕ) → (to.part me heap).entries
-        ≡ (from.part me heap).entries ++ entries_for doer.party.me heap (doer.context.calls + 1) (calls_in trace)
-    around_entries heap =
-        (gave.part heap).beside.entries ∙ made heap
-        ∙ ap (λ (entries : List Entry). entries ++ entries_for mid.party.me heap (mid.context.calls + 1) (calls_in trace)) (held.beside heap).entries
-        ∙ ap (λ (who : ℕ). (from.part me heap).entries ++ entries_for who heap (mid.context.calls + 1) (calls_in trace)) held.same.me
-        ∙ ap (λ (context : Context). (from.part me heap).entries ++ entries_for doer.party.me heap (context.calls + 1) (calls_in trace)) held.context
+      → (heap : ℕ) → (to.part me heap).entries
+      ≡ (from.part me heap).entries ++ entries_for doer.party.me heap (doer.context.calls + 1) (calls_in trace)
+  around_entries trace made heap =
+      (gave.part heap).beside.entries ∙ made heap
+      ∙ ap (λ (entries : List Entry). entries ++ entries_for mid.party.me heap (mid.context.calls + 1) (calls_in trace)) (held.beside heap).entries
+      ∙ ap (λ (who : ℕ). (from.part me heap).entries ++ entries_for who heap (mid.context.calls + 1) (calls_in trace)) held.same.me
+      ∙ ap (λ (context : Context). (from.part me heap).entries ++ entries_for doer.party.me heap (context.calls + 1) (calls_in trace)) held.context
 
-    around_counted : new.context ≡ record (after_calls (length (calls_in trace)) doer.context) { standing = new.context.standing }
-    around_counted =
-        subst (λ (context : Context). new.context ≡ record (after_calls (length (calls_in trace)) context) { standing = new.context.standing })
-        held.context counted
+  around_counted : {new : ParticipantView} (trace : List Done)
+      → new.context ≡ record (after_calls (length (calls_in trace)) mid.context) { standing = new.context.standing }
+      → new.context ≡ record (after_calls (length (calls_in trace)) doer.context) { standing = new.context.standing }
+  around_counted {new} trace counted =
+      subst (λ (context : Context). new.context ≡ record (after_calls (length (calls_in trace)) context) { standing = new.context.standing })
+      held.context counted
 
   -- what it did is what reading the names leads to
   pub does_around : {new : ParticipantView} {heaps : List ℕ} (goes : SharedNames → Doing) (rest : Doing)
@@ -128,9 +129,9 @@ module _ {doer mid : ParticipantView} {names given : NamesView} {from at between
         acts = Acts.and_then None None None [] heaps doer mid new [] (NamesRead (shared_of names) ∷ does.trace) held.waited _ held.acts
             (Acts.holds_names heaps mid new names given does.trace does.steps
             (subst (λ (count : ℕ). Acts count None None heaps mid new does.trace does.steps) held.later.count does.acts) did.names);
-        entries = around_entries does.trace does.entries does.counted;
+        entries = around_entries does.trace does.entries;
         serves = λ heap. (gave.part heap).beside.serves ∙ does.serves heap ∙ (held.beside heap).serves;
-        counted = around_counted does.trace does.entries does.counted;
+        counted = around_counted {new} does.trace does.counted;
         same = same_then doer.party mid.party new.party held.same does.same;
         asked =
             subst (λ (asks : List AskLog). AreAsked (to.seen me) asks doer.party.me doer.party.asked new.party.asked does.trace) (sym heard.1)
@@ -171,8 +172,8 @@ module _ {doer mid : ParticipantView} {names given : NamesView} {from at between
         acts = ActsOn.and_then None None None [] halts.held doer mid new [] (NamesRead (shared_of names) ∷ halts.trace) held.waited _ held.acts
             (ActsOn.holds_names halts.held mid new names given halts.trace halts.steps
             (subst (λ (count : ℕ). ActsOn count None None halts.held mid new halts.trace halts.steps) held.later.count halts.acts) did.names);
-        entries = around_entries halts.trace halts.entries halts.counted;
-        counted = around_counted halts.trace halts.entries halts.counted;
+        entries = around_entries halts.trace halts.entries;
+        counted = around_counted {new} halts.trace halts.counted;
         same = same_then doer.party mid.party new.party held.same halts.same;
       }
 

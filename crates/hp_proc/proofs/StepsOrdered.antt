@@ -12,6 +12,7 @@ use Rattle.hp_frame.specs.declared.frame.Frame.{Frame}
 use Rattle.hp_frame.specs.declared.message.Body.{Body}
 use Rattle.hp_hall.specs.Mail.{MailStep, Fetches, Gives, Notes, Posts, Takes}
 use Rattle.hp_hall.specs.declared.kept.Kept.{Kept}
+use Rattle.hp_hall.specs.declared.kept.Kept.TheVariants.{Names}
 use Rattle.hp_hall.specs.declared.note.Note.{Note}
 use Rattle.hp_hall.specs.declared.slot.TheConstants.{NAMES_SLOT}
 use Rattle.hp_base.specs.declared.plan.Action.{Action}
@@ -231,7 +232,7 @@ module _ (P : MailStep → List ℕ → Type 0) (suits : Suits P) (Ok : Bool →
       (
         (
           suits.names _,
-          along_both P (NAMES_SLOT ∷ []) (NAMES_SLOT ∷ []) [] steps _ inner.0 (suits.gives NAMES_SLOT _ _, names_given),
+          along_both P (NAMES_SLOT ∷ []) (NAMES_SLOT ∷ []) [] steps (Gives NAMES_SLOT (Names given) ∷ []) inner.0 (suits.gives NAMES_SLOT _ _, names_given),
         ),
         tt,
       )
