@@ -46,5 +46,6 @@ pub mod SocketHeapLemmas
 pub mod SocketNames
 mod StatsLines
 pub mod StepsOrdered
+pub mod TreeDeeds
 pub mod Unarmed
 pub mod WorkedLines

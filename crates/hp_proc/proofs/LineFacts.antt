@@ -273,12 +273,12 @@ pub done_one : (heap count : ℕ) (did : List MailStep → Type 0) (doing rest :
 done_one heap count did doing rest old new does = record { held = heap ∷ []; once = once_one heap; does = does }
 
 -- nothing was done
-record IsNothing (count : ℕ) (did : List MailStep → Type 0) (doing rest : Doing) (moment : Moment) : Type 0 where
-  does : Does [] count did doing rest moment moment
-  names : NamesOfLine does.trace does.steps
-  apart : GivesNamesFirst does.steps
+pub record IsNothing (count : ℕ) (did : List MailStep → Type 0) (doing rest : Doing) (moment : Moment) : Type 0 where
+  pub does : Does [] count did doing rest moment moment
+  pub names : NamesOfLine does.trace does.steps
+  pub apart : GivesNamesFirst does.steps
 
-nothing_done : (count : ℕ) (did : List MailStep → Type 0) (doing : Doing) (moment : Moment) → did [] → IsNothing count did doing doing moment
+pub nothing_done : (count : ℕ) (did : List MailStep → Type 0) (doing : Doing) (moment : Moment) → did [] → IsNothing count did doing doing moment
 unfolding does_same does_still
 nothing_done count did doing moment none =
     record { does = does_same count did doing moment none; names = NamesOfLine.none refl refl refl; apart = tt }

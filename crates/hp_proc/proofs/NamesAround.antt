@@ -103,10 +103,10 @@ module _ {doer mid : ParticipantView} {names given : NamesView} {from at between
       ∙ ap (λ (who : ℕ). (from.part me heap).entries ++ entries_for who heap (mid.context.calls + 1) (calls_in trace)) held.same.me
       ∙ ap (λ (context : Context). (from.part me heap).entries ++ entries_for doer.party.me heap (context.calls + 1) (calls_in trace)) held.context
 
-  around_counted : {new : ParticipantView} (trace : List Done)
+  around_counted : (new : ParticipantView) (trace : List Done)
       → new.context ≡ record (after_calls (length (calls_in trace)) mid.context) { standing = new.context.standing }
       → new.context ≡ record (after_calls (length (calls_in trace)) doer.context) { standing = new.context.standing }
-  around_counted {new} trace counted =
+  around_counted new trace counted =
       subst (λ (context : Context). new.context ≡ record (after_calls (length (calls_in trace)) context) { standing = new.context.standing })
       held.context counted
 
@@ -131,7 +131,7 @@ module _ {doer mid : ParticipantView} {names given : NamesView} {from at between
             (subst (λ (count : ℕ). Acts count None None heaps mid new does.trace does.steps) held.later.count does.acts) did.names);
         entries = around_entries does.trace does.entries;
         serves = λ heap. (gave.part heap).beside.serves ∙ does.serves heap ∙ (held.beside heap).serves;
-        counted = around_counted {new} does.trace does.counted;
+        counted = around_counted new does.trace does.counted;
         same = same_then doer.party mid.party new.party held.same does.same;
         asked =
             subst (λ (asks : List AskLog). AreAsked (to.seen me) asks doer.party.me doer.party.asked new.party.asked does.trace) (sym heard.1)
@@ -173,7 +173,7 @@ module _ {doer mid : ParticipantView} {names given : NamesView} {from at between
             (ActsOn.holds_names halts.held mid new names given halts.trace halts.steps
             (subst (λ (count : ℕ). ActsOn count None None halts.held mid new halts.trace halts.steps) held.later.count halts.acts) did.names);
         entries = around_entries halts.trace halts.entries;
-        counted = around_counted {new} halts.trace halts.counted;
+        counted = around_counted new halts.trace halts.counted;
         same = same_then doer.party mid.party new.party held.same halts.same;
       }
 

@@ -17,10 +17,10 @@ use Rattle.hp_hall.specs.declared.note.Note.{Note}
 use Rattle.hp_hall.specs.declared.slot.TheConstants.{NAMES_SLOT}
 use Rattle.hp_base.specs.declared.plan.Action.{Action}
 use Rattle.hp_mail.specs.declared.posted.Posted.{Posted}
+use Rattle.hp_segs.specs.SegsView.{SegsView}
 use Rattle.hp_serve.specs.AskSteps.{StopsNotifying}
 use Rattle.hp_serve.specs.Frames.{Says}
-use Rattle.hp_serve.specs.Attaching.{after_attaching}
-use Rattle.hp_serve.specs.Serving.{acks_after, gives_segments}
+use Rattle.hp_serve.specs.Serving.{acks_after, gives_segments, takes_segments}
 use Rattle.hp_proc.specs.Acting.{Acts}
 use Rattle.hp_proc.specs.Denying.{denials_of}
 use Rattle.hp_proc.specs.Doing.{Done}
@@ -160,10 +160,26 @@ module _ (P : MailStep → List ℕ → Type 0) where
     pub aside_along : (steps : List MailStep) → IsAside steps → Along P hand hand steps
     aside_along steps aside = aside_from false false steps aside
 
-acks_aside : (has : Bool) (caught : Caught) (records : ℕ) → AreAside has has (acks_after caught records)
+pub acks_aside : (has : Bool) (caught : Caught) (records : ℕ) → AreAside has has (acks_after caught records)
 acks_aside has caught.Done records = refl
 acks_aside has (caught.Refused row call) records = refl
 acks_aside has (caught.Elsewhere row call got) records = refl
+
+-- the segment value is taken and given back
+pub looks_aside : (taken given : SegsView) → IsAside (takes_segments taken ∷ gives_segments given ∷ [])
+looks_aside taken given = (refl, refl, tt, (refl, refl, tt, refl))
+
+leaves_aside : (taken given : SegsView) (note : Note) → IsAside (takes_segments taken ∷ Notes note ∷ gives_segments given ∷ [])
+leaves_aside taken given note = (refl, refl, tt, (refl, refl, tt, refl))
+
+attaches_aside : (taken given : SegsView) (caught : Caught) (records : ℕ)
+    → IsAside (takes_segments taken ∷ (acks_after caught records ++ (gives_segments given ∷ [])))
+attaches_aside taken given caught records = (
+  refl,
+  refl,
+  tt,
+  aside_both true true false (acks_after caught records) (gives_segments given ∷ []) (acks_aside true caught records) (refl, refl, tt, refl),
+)
 
 -- WHAT IT DID
 
@@ -200,7 +216,7 @@ module _ (P : MailStep → List ℕ → Type 0) (suits : Suits P) (Ok : Bool →
       ((suits.notes _ _, (suits.gives heap.plain.index _ _, heap_given heap.plain.index names few)), tt)
   acts_along names _ _ _ _ _ _ _ (Acts.makes_call doer heap call answer none) few ok = (refl, few)
   acts_along names _ _ _ _ _ _ _ (Acts.cuts_run doer heap addr run taken) few ok =
-      aside_by (Some heap) names _ _ few refl (refl, refl, tt, (refl, refl, tt, refl))
+      aside_by (Some heap) names _ _ few refl (looks_aside taken _)
   acts_along names _ _ _ _ _ _ _ (Acts.asks_pages doer after asked run steps does) few ok =
       aside_by (Some asked.heap) names steps steps few refl
       (ask_aside (denials_of doer.context.standing) count doer.party after asked steps run does)
@@ -217,11 +233,9 @@ module _ (P : MailStep → List ℕ → Type 0) (suits : Suits P) (Ok : Bool →
     tt,
   )
   acts_along names _ _ _ _ _ _ _ (Acts.attaches doer after taken caught attached) few ok =
-      aside_by None names _ _ tt refl
-      (refl, refl, tt, aside_both true true false (acks_after caught (length taken.log)) (gives_segments (after_attaching doer.party.me caught taken) ∷ [])
-      (acks_aside true caught (length taken.log)) (refl, refl, tt, refl))
+      aside_by None names _ _ tt refl (attaches_aside taken _ caught (length taken.log))
   acts_along names _ _ _ _ _ _ _ (Acts.detaches doer taken told other none are_told) few ok =
-      aside_by None names _ _ tt refl (refl, refl, tt, (refl, refl, tt, refl))
+      aside_by None names _ _ tt refl (leaves_aside taken _ _)
   acts_along names _ _ _ _ _ _ _ (Acts.notes_left doer elements) few ok = (refl, tt)
   acts_along true _ _ _ _ _ _ _ (Acts.reads_names doer view) few ok = absurd (allows.once _ _ _ ok)
   acts_along false _ _ _ _ _ _ _ (Acts.reads_names doer view) few ok = ((suits.names _, (suits.gives NAMES_SLOT _ _, names_given)), tt)
@@ -239,13 +253,13 @@ module _ (P : MailStep → List ℕ → Type 0) (suits : Suits P) (Ok : Bool →
   acts_along names _ _ _ _ _ _ _ (Acts.sees_heap doer heap pen within) few ok =
       ((allows.heap names heap.plain.index _ _ within ok, heap_taken heap.plain.index names), within)
   acts_along names _ _ _ _ _ _ _ (Acts.looks_at_segs doer heap taken) few ok =
-      aside_by (Some heap) names _ _ few refl (refl, refl, tt, (refl, refl, tt, refl))
+      aside_by (Some heap) names _ _ few refl (looks_aside taken _)
   acts_along names _ _ _ _ _ _ _ (Acts.plans_range doer heap addr len page taken) few ok =
-      aside_by (Some heap) names _ _ few refl (refl, refl, tt, (refl, refl, tt, refl))
+      aside_by (Some heap) names _ _ few refl (looks_aside taken _)
   acts_along names _ _ _ _ _ _ _ (Acts.claims doer heap chunk taken plan) few ok =
-      aside_by (Some heap) names _ _ few refl (refl, refl, tt, (refl, refl, tt, refl))
+      aside_by (Some heap) names _ _ few refl (looks_aside taken _)
   acts_along names _ _ _ _ _ _ _ (Acts.releases doer heap chunk taken) few ok =
-      aside_by (Some heap) names _ _ few refl (refl, refl, tt, (refl, refl, tt, refl))
+      aside_by (Some heap) names _ _ few refl (looks_aside taken _)
   acts_along names _ _ _ _ _ _ _ (Acts.maps_chunk doer heap chunk after ended maps) few ok = (refl, few)
   acts_along names _ _ _ _ _ _ _ (Acts.shares doer heap chunk its) few ok = (refl, few)
   acts_along names _ _ _ _ _ _ _ (Acts.leaves doer heap chunk after leaves) few ok = (refl, few)
