@@ -24,6 +24,7 @@ mod MayAttachHere
 pub mod MeantHeaps
 pub mod NamesFollow
 pub mod NamesAround
+pub mod NamedPlaces
 mod NamesHeld
 mod NamesRead
 pub mod NotedCame

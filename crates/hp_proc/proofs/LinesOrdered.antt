@@ -29,7 +29,7 @@ use Rattle.hp_proc.specs.LockOrder.{AreInOrderFrom, AreToldEmptyHandedFrom, Come
 use Rattle.hp_proc.specs.NamesOfLines.{AreUntold, ChangesNames, names_read}
 use Rattle.hp_proc.specs.ParticipantView.{ParticipantView}
 use Rattle.hp_proc.specs.SharedNames.{SharedNames}
-use Rattle.hp_proc.proofs.StepsOrdered.{Allows, Along, AreBut, IsFewHand, Suits, acts_along, along_both, aside_by, looks_aside, low_after, names_given, rank_by, rank_of_heap, slots}
+use Rattle.hp_proc.proofs.StepsOrdered.{Allows, Along, AreBut, IsFewHand, Suits, acts_along, along_both, aside_by, low_after, names_given, rank_by, rank_of_heap, segs_by, slots}
 use Rattle.hp_proc.proofs.ServesAside.{IsNoNotice}
 use Rattle.hp_proc.proofs.WaitsAside.{ask_on_aside, turn_aside, wait_aside}
 use Rattle.hp_zone.specs.declared.names.Names.{Names as NamesView}
@@ -268,14 +268,12 @@ module _ (count : ℕ) where
       aside_by ComesAfterHand comes_suits IsQuiet comes_allows count None names steps steps tt refl
       (turn_aside (denials_of doer.context.standing) count until doer.party after steps None turned)
   on_along names _ _ _ _ _ _ _ (ActsOn.asks_nothing doer heap taken) few ok =
-      aside_by ComesAfterHand comes_suits IsQuiet comes_allows count (Some heap) names _ _ few refl
-      (looks_aside taken _)
+      segs_by ComesAfterHand comes_suits IsQuiet comes_allows count (Some heap) names taken taken few
   on_along names _ _ _ _ _ _ _ (ActsOn.asks_on doer after asked run steps does) few ok =
       aside_by ComesAfterHand comes_suits IsQuiet comes_allows count (Some asked.heap) names steps steps few refl
       (ask_on_aside (denials_of doer.context.standing) count doer.party after asked steps run true does)
   on_along names _ _ _ _ _ _ _ (ActsOn.attaches_not doer taken watched) few ok =
-      aside_by ComesAfterHand comes_suits IsQuiet comes_allows count None names _ _ tt refl
-      (looks_aside taken _)
+      segs_by ComesAfterHand comes_suits IsQuiet comes_allows count None names taken taken tt
   on_along names _ _ _ _ _ _ _ (ActsOn.notice_stops doer after heap run steps stops) few ok =
       (stopped_along names doer doer (record doer { party = after }) heap run steps stops, tt)
   on_along true _ _ _ _ _ _ _ (ActsOn.holds_names held doer after taken given trace steps acts changes) few ok =

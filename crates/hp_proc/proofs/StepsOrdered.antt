@@ -14,11 +14,16 @@ use Rattle.hp_hall.specs.Mail.{MailStep, Fetches, Gives, Notes, Posts, Takes}
 use Rattle.hp_hall.specs.declared.kept.Kept.{Kept}
 use Rattle.hp_hall.specs.declared.kept.Kept.TheVariants.{Names}
 use Rattle.hp_hall.specs.declared.note.Note.{Note}
+use Rattle.hp_hall.specs.declared.note.Note.TheVariants.{Emptied}
 use Rattle.hp_hall.specs.declared.slot.TheConstants.{NAMES_SLOT}
 use Rattle.hp_base.specs.declared.plan.Action.{Action}
 use Rattle.hp_mail.specs.declared.posted.Posted.{Posted}
+use Rattle.hp_segs.specs.LaterSteps.{after_leave}
+use Rattle.hp_segs.specs.Ranges.{after_claim_range, after_release_range}
 use Rattle.hp_segs.specs.SegsView.{SegsView}
+use Rattle.hp_segs.specs.Steps.{after_retire}
 use Rattle.hp_serve.specs.AskSteps.{StopsNotifying}
+use Rattle.hp_serve.specs.Attaching.{after_attaching}
 use Rattle.hp_serve.specs.Frames.{Says}
 use Rattle.hp_serve.specs.Serving.{acks_after, gives_segments, takes_segments}
 use Rattle.hp_proc.specs.Acting.{Acts}
@@ -172,7 +177,7 @@ looks_aside taken given = (refl, refl, tt, (refl, refl, tt, refl))
 leaves_aside : (taken given : SegsView) (note : Note) → IsAside (takes_segments taken ∷ Notes note ∷ gives_segments given ∷ [])
 leaves_aside taken given note = (refl, refl, tt, (refl, refl, tt, refl))
 
-attaches_aside : (taken given : SegsView) (caught : Caught) (records : ℕ)
+pub attaches_aside : (taken given : SegsView) (caught : Caught) (records : ℕ)
     → IsAside (takes_segments taken ∷ (acks_after caught records ++ (gives_segments given ∷ [])))
 attaches_aside taken given caught records = (
   refl,
@@ -203,6 +208,26 @@ module _ (P : MailStep → List ℕ → Type 0) (suits : Suits P) (Ok : Bool →
     few,
   )
 
+  -- the segment value was taken and given back
+  pub segs_by : (hand : Option ℕ) (names : Bool) (taken given : SegsView) → IsFewHand hand
+      → Along P (slots hand names) (slots hand names) (takes_segments taken ∷ gives_segments given ∷ []) × IsFewHand hand
+  segs_by hand names taken given few =
+      aside_by hand names (takes_segments taken ∷ gives_segments given ∷ []) (takes_segments taken ∷ gives_segments given ∷ []) few refl
+      (looks_aside taken given)
+
+  attach_by : (names : Bool) (taken given : SegsView) (caught : Caught) (records : ℕ)
+      → Along P (slots None names) (slots None names) (takes_segments taken ∷ (acks_after caught records ++ (gives_segments given ∷ [])))
+      × IsFewHand None
+  attach_by names taken given caught records =
+      aside_by None names (takes_segments taken ∷ (acks_after caught records ++ (gives_segments given ∷ [])))
+      (takes_segments taken ∷ (acks_after caught records ++ (gives_segments given ∷ []))) tt refl (attaches_aside taken given caught records)
+
+  detach_by : (names : Bool) (taken given : SegsView) (note : Note)
+      → Along P (slots None names) (slots None names) (takes_segments taken ∷ Notes note ∷ gives_segments given ∷ []) × IsFewHand None
+  detach_by names taken given note =
+      aside_by None names (takes_segments taken ∷ Notes note ∷ gives_segments given ∷ [])
+      (takes_segments taken ∷ Notes note ∷ gives_segments given ∷ []) tt refl (leaves_aside taken given note)
+
   pub acts_along : (names : Bool) (hand last : Option ℕ) (held : List ℕ) (doer after : ParticipantView) (trace : List Done) (steps : List MailStep)
       → Acts count hand last held doer after trace steps → IsFewHand hand → Ok names held trace
       → Along P (slots hand names) (slots last names) steps × IsFewHand last
@@ -216,7 +241,7 @@ module _ (P : MailStep → List ℕ → Type 0) (suits : Suits P) (Ok : Bool →
       ((suits.notes _ _, (suits.gives heap.plain.index _ _, heap_given heap.plain.index names few)), tt)
   acts_along names _ _ _ _ _ _ _ (Acts.makes_call doer heap call answer none) few ok = (refl, few)
   acts_along names _ _ _ _ _ _ _ (Acts.cuts_run doer heap addr run taken) few ok =
-      aside_by (Some heap) names _ _ few refl (looks_aside taken _)
+      segs_by (Some heap) names taken (after_retire heap run taken) few
   acts_along names _ _ _ _ _ _ _ (Acts.asks_pages doer after asked run steps does) few ok =
       aside_by (Some asked.heap) names steps steps few refl
       (ask_aside (denials_of doer.context.standing) count doer.party after asked steps run does)
@@ -233,9 +258,9 @@ module _ (P : MailStep → List ℕ → Type 0) (suits : Suits P) (Ok : Bool →
     tt,
   )
   acts_along names _ _ _ _ _ _ _ (Acts.attaches doer after taken caught attached) few ok =
-      aside_by None names _ _ tt refl (attaches_aside taken _ caught (length taken.log))
+      attach_by names taken (after_attaching doer.party.me caught taken) caught (length taken.log)
   acts_along names _ _ _ _ _ _ _ (Acts.detaches doer taken told other none are_told) few ok =
-      aside_by None names _ _ tt refl (leaves_aside taken _ _)
+      detach_by names taken (after_leave doer.party.me taken) Emptied
   acts_along names _ _ _ _ _ _ _ (Acts.notes_left doer elements) few ok = (refl, tt)
   acts_along true _ _ _ _ _ _ _ (Acts.reads_names doer view) few ok = absurd (allows.once _ _ _ ok)
   acts_along false _ _ _ _ _ _ _ (Acts.reads_names doer view) few ok = ((suits.names _, (suits.gives NAMES_SLOT _ _, names_given)), tt)
@@ -253,13 +278,13 @@ module _ (P : MailStep → List ℕ → Type 0) (suits : Suits P) (Ok : Bool →
   acts_along names _ _ _ _ _ _ _ (Acts.sees_heap doer heap pen within) few ok =
       ((allows.heap names heap.plain.index _ _ within ok, heap_taken heap.plain.index names), within)
   acts_along names _ _ _ _ _ _ _ (Acts.looks_at_segs doer heap taken) few ok =
-      aside_by (Some heap) names _ _ few refl (looks_aside taken _)
+      segs_by (Some heap) names taken taken few
   acts_along names _ _ _ _ _ _ _ (Acts.plans_range doer heap addr len page taken) few ok =
-      aside_by (Some heap) names _ _ few refl (looks_aside taken _)
+      segs_by (Some heap) names taken taken few
   acts_along names _ _ _ _ _ _ _ (Acts.claims doer heap chunk taken plan) few ok =
-      aside_by (Some heap) names _ _ few refl (looks_aside taken _)
+      segs_by (Some heap) names taken (after_claim_range chunk.list chunk.addr chunk.len chunk.page chunk.socket taken) few
   acts_along names _ _ _ _ _ _ _ (Acts.releases doer heap chunk taken) few ok =
-      aside_by (Some heap) names _ _ few refl (looks_aside taken _)
+      segs_by (Some heap) names taken (after_release_range chunk.list taken) few
   acts_along names _ _ _ _ _ _ _ (Acts.maps_chunk doer heap chunk after ended maps) few ok = (refl, few)
   acts_along names _ _ _ _ _ _ _ (Acts.shares doer heap chunk its) few ok = (refl, few)
   acts_along names _ _ _ _ _ _ _ (Acts.leaves doer heap chunk after leaves) few ok = (refl, few)

@@ -1,5 +1,5 @@
 -- What a line's tree does nothing of: its traces do nothing of that either.
-use Rattle.std.proofs.Common.{◌≡◌, ◌∙◌, ℕ, Bool, true, false, List, [], ◌∷◌, ◌++◌, filter_map, fold, Option, Some, None, refl, ap, sym, subst}
+use Rattle.std.proofs.Common.{◌≡◌, ◌∙◌, ℕ, Bool, true, false, List, [], ◌∷◌, ◌++◌, filter_map, fold, length, Option, Some, None, refl, ap, sym, subst}
 use Rattle.std.specs.List.{AllByRecursion}
 use Rattle.std.specs.Prelude.{⊤, find, is_some}
 use Rattle.std.proofs.lemmas.List.Elements.{filter_map-append}
@@ -12,7 +12,8 @@ use Rattle.hp_hall.specs.declared.kept.Kept.TheVariants.{Heap, Names, Segments}
 use Rattle.hp_hall.specs.declared.slot.TheConstants.{NAMES_SLOT}
 use Rattle.hp_heap.specs.declared.entry.HeapAnswer.{HeapAnswer}
 use Rattle.hp_heap.specs.declared.entry.HeapAnswer.TheVariants as gives
-use Rattle.hp_serve.specs.Serving.{acks_after}
+use Rattle.hp_serve.specs.Attaching.{after_attaching}
+use Rattle.hp_serve.specs.Serving.{acks_after, gives_segments, takes_segments}
 use Rattle.hp_zone.specs.declared.names.Names.{Names as NamesView}
 use Rattle.hp_proc.specs.Acting.{Acts}
 use Rattle.hp_proc.specs.Allocating.{asking, growing, searching_again, serving, trying, unless_found, with_run}
@@ -28,7 +29,7 @@ use Rattle.hp_proc.specs.ParticipantView.{ParticipantView}
 use Rattle.hp_proc.specs.SharedNames.{NamesChange, SharedNames, names_with}
 use Rattle.hp_proc.proofs.LinesOrdered.{read_on}
 use Rattle.hp_proc.proofs.ServesAside.{AreAside}
-use Rattle.hp_proc.proofs.StepsOrdered.{acks_aside, attaches_aside}
+use Rattle.hp_proc.proofs.StepsOrdered.{attaches_aside}
 use Rattle.hp_proc.proofs.WaitsAside.{ask_aside, turn_aside, wait_aside}
 
 -- all that a tree may do has a property
@@ -145,7 +146,7 @@ none_parts [] rest none = (refl, none)
 none_parts (x ∷ first) rest none = cc
 
 none_both : {X : Type 0} (first rest : List X) → first ≡ [] → rest ≡ [] → first ++ rest ≡ []
-none_both first rest here there = ap (λ (first : List X). first ++ rest) here ∙ there
+none_both {X} first rest here there = ap (λ (first : List X). first ++ rest) here ∙ there
 
 -- where it did not read the names it made no step on their slot
 module _ (count : ℕ) where
@@ -160,7 +161,9 @@ module _ (count : ℕ) where
       ∙ aside_unnamed false false does.waited
       (wait_aside (denials_of doer.context.standing) count _ true _ after does.waited (Some does.now) does.waits)
   acts_unnamed _ _ _ _ _ _ _ (Acts.attaches doer after taken caught attached) unread =
-      aside_unnamed false false _ (attaches_aside taken _ caught _)
+      aside_unnamed false false
+      (takes_segments taken ∷ (acks_after caught (length taken.log) ++ (gives_segments (after_attaching doer.party.me caught taken) ∷ [])))
+      (attaches_aside taken (after_attaching doer.party.me caught taken) caught (length taken.log))
   acts_unnamed _ _ _ _ _ _ _ (Acts.reads_names doer names) unread = absurd (some_none (shared_of names) [] unread)
   acts_unnamed _ _ _ _ _ _ _ (Acts.holds_names held doer after taken given trace steps acts changes) unread =
       absurd (some_none (shared_of taken) (names_read trace) unread)
