@@ -26,6 +26,7 @@ pub mod MeantHeaps
 pub mod NamedPlaces
 pub mod NamesFollow
 pub mod NamesAround
+pub mod NamedPlaces
 mod NamesHeld
 mod NamesRead
 pub mod NotedCame
@@ -49,5 +50,6 @@ pub mod SocketHeapLemmas
 pub mod SocketNames
 mod StatsLines
 pub mod StepsOrdered
+pub mod TreeDeeds
 pub mod Unarmed
 pub mod WorkedLines

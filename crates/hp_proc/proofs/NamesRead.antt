@@ -1,26 +1,26 @@
 -- What a participant does that reads the names, or the newest statistics of a heap.
 use Rattle.std.proofs.Common.{◌≡◌, ◌∙◌, ℕ, ◌++◌, ◌<◌, List, [], ◌∷◌, map, append-nil, append_assoc, Option, Some, None, refl, ap, sym, subst, arith}
-use Rattle.hp_base.specs.declared.limits.TheConstants.{MAX_HEAPS}
 use Rattle.hp_hall.specs.HallCalls.{HasGiven}
 use Rattle.hp_hall.specs.HallState.{Did, HallState, OthersStay, SlotsStayBut}
 use Rattle.hp_hall.specs.Mail.{Gives, MailStep, Takes}
 use Rattle.hp_hall.specs.declared.kept.Kept.TheVariants.{Names}
 use Rattle.hp_hall.specs.declared.slot.TheConstants.{NAMES_SLOT}
 use Rattle.hp_hall.proofs.HallStates.{did_then, later_then}
-use Rattle.hp_zone.specs.Directory.{IsDirectory, directory_after, opening}
+use Rattle.hp_zone.specs.Directory.{DirectoryView, IsDirectory, directory_after, opening}
 use Rattle.hp_zone.specs.declared.names.Names.{Names as NamesView}
 use Rattle.hp_proc.specs.Acting.{Acts, AreAsked}
 use Rattle.hp_proc.specs.Doing.{Doing, Goes, Leads}
 use Rattle.hp_proc.specs.Doing.Done.{NamesRead}
 use Rattle.hp_proc.specs.Handing.{shared_of}
 use Rattle.hp_proc.specs.Heaps.{sockets_of}
-use Rattle.hp_proc.specs.LineInHall.{DoesHere, HoldsNames, IsReadyAgain}
+use Rattle.hp_proc.specs.LineInHall.{DoesHere, HoldsNames, IsReadyAgain, ReadsNames}
 use Rattle.hp_proc.specs.Lines.{reading_names}
 use Rattle.hp_proc.specs.ParticipantView.{ParticipantView}
 use Rattle.hp_proc.specs.SharedNames.{SharedNames, directory_in}
 use Rattle.hp_proc.proofs.Joining.{context_still}
 use Rattle.hp_proc.proofs.LinesInHall.{idle_again}
 use Rattle.hp_proc.proofs.NamesHeld.{ready_beside}
+use Rattle.hp_proc.proofs.TreeDeeds.{acts_unnamed, steps_on}
 use Rattle.hp_serve.proofs.InHalls.{tied_later}
 use Rattle.hp_proc.specs.OwnChunks.{own_chunk}
 
@@ -37,9 +37,9 @@ module _ (doer mid : ParticipantView) (names : NamesView) (from at to : HallStat
   me = doer.party.me
 
   -- it read them
-  pub names_read : (goes : SharedNames → Doing) → DoesHere [] me doer mid from to (reading_names goes) (goes (shared_of names))
+  does_read : (goes : SharedNames → Doing) → DoesHere [] me doer mid from to (reading_names goes) (goes (shared_of names))
   unfolding Leads Goes AreAsked
-  names_read goes =
+  does_read goes =
       let later = later_then held.later others.later in
       let seen = later.seen me in
       let heard = later.heard me in
@@ -62,6 +62,16 @@ module _ (doer mid : ParticipantView) (names : NamesView) (from at to : HallStat
         outcomes = heard.0;
         asks = heard.1;
       }
+
+  pub names_read : (goes : SharedNames → Doing) → ReadsNames me doer mid names from to goes
+  unfolding does_read
+  names_read goes = record {
+    does = does_read goes;
+    trace = refl;
+    steps = steps_on held.waited (Takes NAMES_SLOT (Names names) ∷ Gives NAMES_SLOT (Names names) ∷ [])
+        ∙ ap (λ (waited : List MailStep). waited ++ (Takes NAMES_SLOT (Names names) ∷ Gives NAMES_SLOT (Names names) ∷ []))
+        (acts_unnamed from.count None None [] doer mid [] held.waited held.acts refl);
+  }
 
   -- and is ready for its next line
   pub ready_read : IsReadyAgain me doer mid to
