@@ -26,7 +26,6 @@ pub mod MeantHeaps
 pub mod NamedPlaces
 pub mod NamesFollow
 pub mod NamesAround
-pub mod NamedPlaces
 mod NamesHeld
 mod NamesRead
 pub mod NotedCame

@@ -9,7 +9,7 @@ ghost use Rattle.hp_proc.specs.Courses.{maker_from};
 ghost use Rattle.hp_proc.specs.Doing.{Doing};
 ghost use Rattle.hp_proc.specs.Freeing.{FitsTag, IsSizedWell, act_for, acting, after_looking, left_of, looking};
 ghost use Rattle.hp_proc.specs.LineTrees.{on_made};
-ghost use Rattle.hp_proc.specs.Lines.{Facts, reading_names};
+ghost use Rattle.hp_proc.specs.Lines.{Facts, is_own_maker, reading_names};
 ghost use Rattle.hp_proc.specs.PlaceLists.{place_list};
 ghost use Rattle.hp_proc.specs.SharedNames.{SharedNames};
 ghost use Rattle.hp_proc.specs.Progress.{AreOnce};
@@ -185,7 +185,9 @@ impl<'p, M: Mapper, F: Decide + Copy + Drop> Participant<'p, M, F> {
             (hall.new ≡ hall.old) (H.state hall.old) (H.state hall.new)) }
         ensures halts { OnErr result ((goes : SharedNames → Doing) → HaltsHere [] self.old.party.me self.old self.new (H.state hall.old)
             (H.state hall.new) (reading_names goes)) }
+        ensures other { OnErr result (is_own_maker self.old.party.me (maker_from maker.now) ≡ false) }
         ensures ready { IsReadyAgain self.old.party.me self.old self.new (H.state hall.new) }
+        ensures context { self.new.context ≡ self.old.context }
         ensures clock { RisesWithin H.pending (λ hall. IsBusy (H.state hall)) 0 (H.state hall.old).clock (H.state hall.new).clock }
         ensures goes_on { H.goes_on hall.old hall.new }
     {

@@ -1,12 +1,14 @@
 //! How a participant holds the names, and what it reads there.
-ghost use Rattle.std.specs.Prelude.{[], IfOk, OnErr};
+ghost use Rattle.std.specs.Prelude.{◌≡◌, [], IfOk, OnErr};
 ghost use Rattle.hp_hall.specs.HallState.{IsBusy};
 ghost use Rattle.hp_hall.specs.Values.{IsSoundKept};
 ghost use Rattle.hp_hall.specs.declared.kept.Kept.{Kept};
 ghost use Rattle.hp_proc.specs.Doing.{Doing};
 ghost use Rattle.hp_proc.specs.LineInHall.{HaltsHere, HasReadAll, HasReadNames, HoldsNames, IsReadyAgain, IsReadyIn};
+ghost use Rattle.hp_proc.specs.Lines.{reading_names};
 ghost use Rattle.hp_proc.specs.NamesInHand.{GivesNamesBack, MayGiveNames};
 ghost use Rattle.hp_proc.specs.PlaceLists.{place_list};
+ghost use Rattle.hp_proc.specs.SharedNames.{SharedNames};
 ghost use Rattle.hp_serve.specs.Clocks.{RisesWithin};
 
 use super::Participant;
@@ -35,6 +37,7 @@ impl<'p, M: Mapper, F: Decide + Copy + Drop> Participant<'p, M, F> {
         ensures halts { OnErr result ((doing : Doing) → HaltsHere [] self.old.party.me self.old self.new (H.state hall.old)
             (H.state hall.new) doing) }
         ensures err { OnErr result (IsReadyAgain self.old.party.me self.old self.new (H.state hall.new)) }
+        ensures context { self.new.context ≡ self.old.context }
         ensures clock { RisesWithin H.pending (λ hall. IsBusy (H.state hall)) 0 (H.state hall.old).clock (H.state hall.new).clock }
         ensures goes_on { H.goes_on hall.old hall.new }
     {
@@ -69,6 +72,7 @@ impl<'p, M: Mapper, F: Decide + Copy + Drop> Participant<'p, M, F> {
         ensures halts { OnErr result ((doing : Doing) → HaltsHere [] self.old.party.me self.old self.new (H.state hall.old)
             (H.state hall.new) doing) }
         ensures ready { IsReadyAgain self.old.party.me self.old self.new (H.state hall.new) }
+        ensures context { self.new.context ≡ self.old.context }
         ensures clock { RisesWithin H.pending (λ hall. IsBusy (H.state hall)) 0 (H.state hall.old).clock (H.state hall.new).clock }
         ensures goes_on { H.goes_on hall.old hall.new }
     {
@@ -83,9 +87,10 @@ impl<'p, M: Mapper, F: Decide + Copy + Drop> Participant<'p, M, F> {
         requires ready { IsReadyIn self.old.party.me self.old (H.state hall.old) }
         ensures read { IfOk result (λ found. HasReadAll self.old.party.me self.old self.new (place_list found) (H.state hall.old)
             (H.state hall.new)) }
-        ensures halts { OnErr result ((doing : Doing) → HaltsHere [] self.old.party.me self.old self.new (H.state hall.old)
-            (H.state hall.new) doing) }
+        ensures halts { OnErr result ((goes : SharedNames → Doing) → HaltsHere [] self.old.party.me self.old self.new (H.state hall.old)
+            (H.state hall.new) (reading_names goes)) }
         ensures ready { IsReadyAgain self.old.party.me self.old self.new (H.state hall.new) }
+        ensures context { self.new.context ≡ self.old.context }
         ensures clock { RisesWithin H.pending (λ hall. IsBusy (H.state hall)) 0 (H.state hall.old).clock (H.state hall.new).clock }
         ensures goes_on { H.goes_on hall.old hall.new }
     {

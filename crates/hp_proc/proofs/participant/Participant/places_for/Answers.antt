@@ -2,13 +2,12 @@
 use Rattle.std.proofs.Common.{◌≡◌, ◌∙◌, ℕ, Bool, true, false, not, ◌&&◌, ◌==◌, Option, Some, refl, ap, sym, subst}
 use Rattle.std.specs.List.{find}
 use Rattle.std.specs.Option.{option_map, option_to_list}
-use Rattle.std.proofs.lemmas.Result.{on_err_weaker}
 use Rattle.hp_proc.specs.Courses.{is_zone_act, maker_from, searched_heap_at}
 use Rattle.hp_proc.specs.LineInHall.{FindsBy}
-use Rattle.hp_proc.specs.Lines.{is_own_maker, reading_names}
+use Rattle.hp_proc.specs.Lines.{is_own_maker}
 use Rattle.hp_proc.specs.ParticipantView.{ParticipantView}
 use Rattle.hp_proc.specs.PlaceLists.{place_list}
-use Rattle.hp_serve.proofs.AskingFacts.AskedAlong.{if_ok}
+use Rattle.hp_serve.proofs.AskingFacts.AskedAlong.{if_ok, on_err_any}
 use Rattle.hp_proc.proofs.participant.Participant.places_for.Goals as goal
 
 pub returns-then-is_own-clause-does : goal.returns-then-is_own-clause-does
@@ -43,5 +42,10 @@ returns-clause-does g c =
     subst (λ (own : Bool). FindsBy own me doer c.read_places.new.self (maker_from line) (place_list places)
     (c.read_places.new.hall ≡ c.args.hall.now) old new) (sym own) read) c.read_places.ensures.read
 
-pub returns-clause-halts : goal.returns-clause-halts
-returns-clause-halts g c = on_err_weaker c.read_places.result (λ halts goes. halts (reading_names goes)) c.read_places.ensures.halts
+pub returns-clause-other : goal.returns-clause-other
+returns-clause-other g c =
+    let doer = c.args.self.now in
+    let line = c.args.maker.now in
+    let own : is_own_maker doer.party.me (maker_from line) ≡ false =
+    ap (λ (who : ℕ). (line.participant == who) && not (is_zone_act line.act)) (sym c.number.ensures) ∙ (sym c.is_own.ensures ∙ c.if-is_own.false) in
+    on_err_any c.read_places.result _ own

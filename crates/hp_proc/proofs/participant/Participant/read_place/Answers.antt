@@ -61,6 +61,7 @@ returns g c =
       };
       halts = tt;
       ready = ready_read doer mid names old at new held gave is.slots others;
+      context = held.context;
       clock = λ one. omega (arith, c.take_names.ensures.clock one, others.clock);
       goes_on = g.met.H.Hall.goes_on_then _ _ _ c.take_names.ensures.goes_on c.give_names.ensures.goes_on;
     }
@@ -71,6 +72,7 @@ returns-in_err-names g c = record {
   read = search rules;
   halts = on_err_any c.from_residual.result _ c.in_err-names.ensures.halts;
   ready = c.in_err-names.ensures.err;
+  context = c.take_names.ensures.context;
   clock = c.take_names.ensures.clock;
   goes_on = c.take_names.ensures.goes_on;
 }

@@ -108,6 +108,7 @@ returns-in-Ok g c =
       };
       halts = tt;
       err = tt;
+      context = was.context;
       clock = λ one. omega (arith, was.clock one, is.others.clock);
       goes_on = g.met.H.Hall.goes_on_then _ _ _ was.goes_on is.goes_on;
     }
@@ -194,6 +195,7 @@ returns-in_err-turn-in-Err g c =
       held = search rules;
       halts = on_err_any c.from_residual.result _ halts;
       err = on_err_any c.from_residual.result _ again;
+      context = is.context ∙ was.context;
       clock = λ one. absurd (one.free c.try_take.new.self (NAMES_SLOT, _, tried.held.found));
       goes_on = g.met.H.Hall.goes_on_then _ _ _ was.goes_on (g.met.H.Hall.goes_on_then _ _ _ tried.goes_on is.goes_on);
     }
