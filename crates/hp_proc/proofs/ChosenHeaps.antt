@@ -1,17 +1,15 @@
 -- The heaps that an allocation tries, by the heaps of the sockets.
-use Rattle.std.proofs.Common.{◌≡◌, ℕ, Bool, List, ◌++◌, map, filter, find, not, ◌&&◌, Option, Some, None, is_some, refl, ap, ◌∙◌, sym}
+use Rattle.std.proofs.Common.{◌≡◌, ℕ, Bool, List, ◌++◌, map, filter, find, not, ◌&&◌, Option, Some, None, is_some, ap, ◌∙◌, sym}
 use Rattle.std.specs.List.{All}
-use Rattle.std.specs.Option.{option_map, option_to_list}
+use Rattle.std.specs.Option.{option_to_list}
 use Rattle.std.proofs.lemmas.List.{map-append}
 use Rattle.std.proofs.lemmas.List.Elements.{All-append, All-filter}
 use Rattle.hp_segs.proofs.Finds.{find_mapped}
 use Rattle.hp_script.specs.declared.options.SocketChoice.{SocketChoice}
 use Rattle.hp_script.specs.declared.options.SocketChoice.TheVariants.{Any, Number}
-use Rattle.hp_proc.proofs.Mapped.{All-found, filter-mapped, map-listed, map-mapped}
-use Rattle.hp_proc.specs.Contexts.{is_of_socket, named_heap, searched_heap}
+use Rattle.hp_proc.proofs.Mapped.{All-found, filter-mapped, map-listed}
+use Rattle.hp_proc.specs.Contexts.{is_of_socket, named_heap}
 use Rattle.hp_proc.specs.Heaps.{NamedHeap, heaps_for, own_first, takes_pages_of}
-use Rattle.hp_proc.specs.PlaceLists.{place_named}
-use Rattle.hp_proc.specs.declared.searched_heap.SearchedHeap.{SearchedHeap}
 use Rattle.hp_proc.specs.declared.socket_heap.SocketHeap.{SocketHeap}
 
 -- that of a socket
@@ -42,19 +40,3 @@ All-heaps_for P own heaps (Some name) choice all = All-found P _ heaps all
 All-heaps_for P own heaps None (Number socket) all = All-found P (takes_pages_of socket) heaps all
 All-heaps_for P own heaps None Any all =
     All-append P _ _ (All-filter (takes_pages_of own) P heaps all) (All-filter _ P heaps all)
-
--- as places
-module _ (own : ℕ) (heaps : List SocketHeap) (named : List NamedHeap) (are : map named_heap heaps ≡ named) (places : List SearchedHeap) where
-  pub places_number : (socket : ℕ) → places ≡ option_to_list (option_map searched_heap (find (is_of_socket socket) heaps))
-      → places ≡ map place_named (heaps_for own named None (Number socket))
-  places_number socket is =
-      let its : List SocketHeap = option_to_list (find (is_of_socket socket) heaps) in
-      is
-      ∙ (sym (map-listed searched_heap (find (is_of_socket socket) heaps))
-      ∙ (sym (map-mapped place_named named_heap its) ∙ ap (map place_named) (chosen_number own socket heaps its named are refl)))
-
-  pub places_any : places ≡ map searched_heap (filter (is_of_socket own) heaps ++ filter (λ (heap : SocketHeap). not (is_of_socket own heap)) heaps)
-      → places ≡ map place_named (heaps_for own named None Any)
-  places_any is =
-      let its : List SocketHeap = filter (is_of_socket own) heaps ++ filter (λ (heap : SocketHeap). not (is_of_socket own heap)) heaps in
-      is ∙ (sym (map-mapped place_named named_heap its) ∙ ap (map place_named) (chosen_any own heaps its named are refl))

@@ -14,6 +14,7 @@ pub mod LawLemmas
 pub mod LeastData
 pub mod LineEnds
 pub mod LineFacts
+pub mod LinesApart
 pub mod LinesInHall
 pub mod LinesOrdered
 pub mod MadeHeaps
@@ -24,7 +25,7 @@ mod MayAttachHere
 pub mod MeantHeaps
 pub mod NamesFollow
 pub mod NamesAround
-pub mod NamedPlaces
+pub mod WhosePages
 mod NamesHeld
 mod NamesRead
 pub mod NotedCame
@@ -37,7 +38,7 @@ mod PoolsFrom
 mod Registered
 mod RegisteredHere
 pub mod RegisteredLines
-mod ReleasedMemory
+pub mod ReleasedMemory
 pub mod ServesAside
 pub mod WaitsAside
 mod SharedMarks
