@@ -122,7 +122,7 @@ module _ {held more : List ℕ} (count : ℕ) (here_did there_did did : List Mai
       (subst (λ (who : ℕ). AreAsked new.log new.asks who mid.party.asked new.party.asked there.trace) here.same.me there.asked)
 
   -- what was done, and what was done after it
-  pub does_then : Does (held ++ more) count did doing rest old new
+  unfoldable pub does_then : Does (held ++ more) count did doing rest old new
   does_then = record {
     trace = whole;
     steps = here.steps ++ there.steps;

@@ -15,6 +15,7 @@ pub mod LawLemmas
 pub mod LeastData
 pub mod LineEnds
 pub mod LineFacts
+pub mod LinesApart
 pub mod LinesInHall
 pub mod LinesOrdered
 pub mod MadeHeaps
@@ -26,6 +27,10 @@ pub mod MeantHeaps
 pub mod NamedPlaces
 pub mod NamesFollow
 pub mod NamesAround
+<<<<<<< HEAD
+=======
+pub mod WhosePages
+>>>>>>> origin/zon
 mod NamesHeld
 mod NamesRead
 pub mod NotedCame
@@ -39,7 +44,7 @@ mod PoolsFrom
 mod Registered
 mod RegisteredHere
 pub mod RegisteredLines
-mod ReleasedMemory
+pub mod ReleasedMemory
 pub mod ServesAside
 pub mod WaitsAside
 mod SharedMarks

@@ -282,7 +282,7 @@ module _ (count : ℕ) where
       let inner = on_along true None None held doer after trace steps acts tt (λ is. (changes.unread, changes.untold)) in
       (
         (
-          comes_suits.names _,
+          comes_suits.names (Names taken),
           along_both ComesAfterHand (NAMES_SLOT ∷ []) (NAMES_SLOT ∷ []) [] steps (Gives NAMES_SLOT (Names given) ∷ []) inner.0 (tt, names_given),
         ),
         tt,

@@ -338,6 +338,7 @@ ChoosesPlaces me old new options places same from to = ChoosesBy me old new opti
 abbrev pub FindsBy : Bool → ℕ → ParticipantView → ParticipantView → Maker → List SearchedHeap → Type 0 → HallState → HallState → Type 0
 FindsBy true me old new maker places same from to = (new ≡ old) × same
     × (places ≡ option_to_list (heap_of_element old.context.pools old.context.standing.elements (Some maker)))
+    × All (IsPlaceOf old.context.pools) places
 FindsBy false me old new maker places same from to = HasReadAll me old new places from to
 
 abbrev pub FindsPlaces : ℕ → ParticipantView → ParticipantView → Maker → List SearchedHeap → Type 0 → HallState → HallState → Type 0

@@ -12,6 +12,7 @@ use Rattle.hp_proc.specs.Contexts.{Context}
 use Rattle.hp_proc.specs.Heaps.{has_name, sockets_of}
 use Rattle.hp_proc.specs.PlaceLists.{place_named}
 use Rattle.hp_proc.specs.SharedNames.{heaps_in}
+use Rattle.hp_proc.proofs.HandFacts.Holds.{knew_same}
 use Rattle.hp_proc.proofs.NamesRead.{as_leaves, names_read, ready_read}
 use Rattle.hp_proc.proofs.PlacesRead.{places_read}
 use Rattle.hp_serve.proofs.AskingFacts.AskedAlong.{on_err_any}
@@ -60,8 +61,10 @@ returns g c =
             ∙ ap (λ (text : List ℕ). option_map place_named (find (has_name text) (heaps_in names.heaps.plain))) c.as_bytes.ensures.text;
       };
       halts = tt;
-      ready = ready_read doer mid names old at new held gave is.slots others;
-      context = held.context;
+      ready = record {
+        again = ready_read doer mid names old at new held gave is.slots others;
+        context = knew_same doer.context mid.context held.context;
+      };
       clock = λ one. omega (arith, c.take_names.ensures.clock one, others.clock);
       goes_on = g.met.H.Hall.goes_on_then _ _ _ c.take_names.ensures.goes_on c.give_names.ensures.goes_on;
     }
@@ -72,7 +75,6 @@ returns-in_err-names g c = record {
   read = search rules;
   halts = on_err_any c.from_residual.result _ c.in_err-names.ensures.halts;
   ready = c.in_err-names.ensures.err;
-  context = c.take_names.ensures.context;
   clock = c.take_names.ensures.clock;
   goes_on = c.take_names.ensures.goes_on;
 }

@@ -14,6 +14,7 @@ use Rattle.hp_proc.specs.Lines.{reading_names}
 use Rattle.hp_proc.specs.SharedNames.{SharedNames}
 use Rattle.hp_proc.proofs.Halted.{halts_of}
 use Rattle.hp_proc.specs.Heaps.{sockets_of}
+use Rattle.hp_proc.proofs.HandFacts.Holds.{knew_same}
 use Rattle.hp_proc.proofs.NamesRead.{as_leaves, names_read, ready_read}
 use Rattle.hp_proc.proofs.PlacesRead.{places_read}
 use Rattle.hp_serve.proofs.AskingFacts.AskedAlong.{on_err_any}
@@ -61,8 +62,10 @@ returns g c =
         found_are = c.in_ok-places.ensures;
       };
       halts = tt;
-      ready = ready_read doer mid names old at new held gave is.slots others;
-      context = held.context;
+      ready = record {
+        again = ready_read doer mid names old at new held gave is.slots others;
+        context = knew_same doer.context mid.context held.context;
+      };
       clock = λ one. omega (arith, c.take_names.ensures.clock one, others.clock);
       goes_on = g.met.H.Hall.goes_on_then _ _ _ c.take_names.ensures.goes_on c.give_names.ensures.goes_on;
     }
@@ -73,7 +76,6 @@ returns-in_err-names g c = record {
   read = search rules;
   halts = on_err_any c.from_residual.result _ (λ goes. c.in_err-names.ensures.halts (reading_names goes));
   ready = c.in_err-names.ensures.err;
-  context = c.take_names.ensures.context;
   clock = c.take_names.ensures.clock;
   goes_on = c.take_names.ensures.goes_on;
 }
@@ -100,8 +102,10 @@ returns-in_err-places g c =
     record {
       read = search rules;
       halts = on_err_any c.from_residual.result _ halts;
-      ready = ready_read doer mid names old at new held gave is.slots others;
-      context = held.context;
+      ready = record {
+        again = ready_read doer mid names old at new held gave is.slots others;
+        context = knew_same doer.context mid.context held.context;
+      };
       clock = λ one. omega (arith, c.take_names.ensures.clock one, others.clock);
       goes_on = g.met.H.Hall.goes_on_then _ _ _ c.take_names.ensures.goes_on c.give_names.ensures.goes_on;
     }
