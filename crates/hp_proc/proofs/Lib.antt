@@ -3,6 +3,7 @@ pub mod AllocFacts
 pub mod AttachedLines
 pub mod HandFacts
 pub mod ChosenHeaps
+pub mod ChunkLies
 mod ChunksLeft
 pub mod Continued
 pub mod FoundZones
@@ -24,9 +25,13 @@ pub mod Mapped
 mod MarksApart
 mod MayAttachHere
 pub mod MeantHeaps
+pub mod NamedPlaces
 pub mod NamesFollow
 pub mod NamesAround
+<<<<<<< HEAD
+=======
 pub mod WhosePages
+>>>>>>> origin/zon
 mod NamesHeld
 mod NamesRead
 pub mod NotedCame
@@ -34,6 +39,7 @@ pub mod NotedLeft
 pub mod Noted
 pub mod OrdinaryElements
 pub mod PagesStay
+pub mod PlacesRead
 pub mod Plans
 mod PoolsFrom
 mod Registered

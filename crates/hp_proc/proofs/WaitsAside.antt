@@ -11,7 +11,6 @@ use Rattle.hp_hall.specs.declared.note.Note.TheVariants.{Read, Yielded}
 use Rattle.hp_segs.specs.declared.ask.Ask.{Ask}
 use Rattle.hp_serve.specs.AskSteps.{DoesAsk, DoesAskOn, IsAwaitedBy, IsAwaitedOn, IsSentAs, IsSettledLate, IsSettledOn}
 use Rattle.hp_serve.specs.Denials.{Denials}
-use Rattle.hp_serve.specs.Looking.{IsLookAt}
 use Rattle.hp_serve.specs.Party.{Party}
 use Rattle.hp_serve.specs.Waiting.{AreServings, AreTurns, AreTurnsOn, HaveServed, HaveServedOn, IsOutlasted, IsServedOut, IsTurned, IsTurnedOn, IsWaited, IsWaitedOut}
 use Rattle.hp_serve.specs.declared.pages_asked.PagesAsked.{PagesAsked}

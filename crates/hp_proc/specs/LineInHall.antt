@@ -139,6 +139,11 @@ pub record AreFreeBesideNames (slot me : ℕ) (old new : HallState) : Type 0 whe
 abbrev pub MayGiveBeside : ℕ → HallState → Type 0
 MayGiveBeside me state = (state.taken NAMES_SLOT ≡ None) ⊎ (has_names (state.done me) ≡ true)
 
+-- it has the names in hand: by its steps, and their value is out
+pub record HasNamesOut (me : ℕ) (state : HallState) : Type 0 where
+  pub told : has_names (state.done me) ≡ true
+  pub out : state.taken NAMES_SLOT ≢ None
+
 -- the slot is free: it is not out, and may be taken
 pub record IsFreeAt (slot : ℕ) (state : HallState) : Type 0 where
   pub taken : state.taken slot ≡ None
