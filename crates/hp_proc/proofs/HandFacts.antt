@@ -16,6 +16,7 @@ pub mod HandMoved
 pub mod HandNamed
 pub mod HandSearched
 pub mod HandTied
+pub mod HandTraded
 pub mod HandTried
 pub mod HeldBack
 pub mod HeldOn

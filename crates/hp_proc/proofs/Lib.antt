@@ -5,6 +5,8 @@ pub mod AttachedLines
 pub mod HandFacts
 pub mod ChosenHeaps
 pub mod ChunkLies
+mod AddedHere
+mod ChunkCame
 mod ChunksLeft
 pub mod Continued
 mod ExternalMeant

@@ -1,5 +1,5 @@
 -- Names that agree with all that is known of heaps but the one in hand agree so still, once that heap, they, or the claimed memory have changed.
-use Rattle.std.proofs.Common.{◌++◌, ◌<◌, ◌∙◌, ◌≡◌, ◌≢◌, Bool, List, None, Option, Some, ap, cond, eq-eqb, eqb, false, ne_eqb, refl, sym, true, ℕ}
+use Rattle.std.proofs.Common.{◌++◌, ◌<◌, ◌∙◌, ◌≡◌, ◌≢◌, Bool, List, None, Option, Some, ap, cond, eq-eqb, eqb, false, ne_eqb, refl, subst, sym, true, ℕ}
 use Rattle.std.proofs.lemmas.Bool.{cond-false, cond-true}
 use Rattle.std.proofs.lemmas.List.{append_assoc}
 use Rattle.std.specs.Option.{option_map}
@@ -9,7 +9,7 @@ use Rattle.hp_base.specs.declared.limits.TheConstants.{MAX_HEAPS}
 use Rattle.hp_hall.proofs.AgreedAlike.{agree_alike}
 use Rattle.hp_hall.specs.AgreedNames.{AreAgreedNames}
 use Rattle.hp_hall.specs.Holding.{AgreeWith, HeapPart}
-use Rattle.hp_hall.specs.Named.{GivesNames}
+use Rattle.hp_hall.specs.Named.{GivesNames, IsAllocated}
 use Rattle.hp_hall.specs.Naming.{Naming, naming_of}
 use Rattle.hp_heap.specs.History.{HeapView}
 use Rattle.hp_heap.specs.declared.entry.Entry.{Entry}
@@ -117,4 +117,12 @@ names_go entries was names given more gives zones sockets heaps = record {
     heaps = heaps ∙ (ap (λ (l : List NameChange). l ++ more) gives.goes_on.heaps ∙ append_assoc was.heaps.log gives.goes_on.more_heaps more);
   };
   allocated = gives.allocated;
+}
+
+-- and as the entries say that are home
+pub names_entries : (entries later : ℕ → List Entry) (was names : NamesView) → ((index : ℕ) → later index ≡ entries index)
+    → GivesNames entries was names → GivesNames later was names
+names_entries entries later was names same gives = record {
+  goes_on = gives.goes_on;
+  allocated = λ zone has. subst (IsAllocated zone.addr) (sym (same zone.heap)) (gives.allocated zone has);
 }
