@@ -4,12 +4,15 @@ pub mod HandAsked
 pub mod HandAttaches
 pub mod HandCalls
 pub mod HandCut
+pub mod HandDone
 pub mod HandExternal
 pub mod HandGiven
 pub mod HandGrown
 pub mod HandLeaves
+pub mod HandKept
 pub mod HandMarks
 pub mod HandMoved
+pub mod HandNamed
 pub mod HandTied
 pub mod HandTried
 pub mod HeldOn

@@ -1,10 +1,12 @@
 pub mod AddressLies
+mod AgreedLater
 pub mod AllocFacts
 pub mod AttachedLines
 pub mod HandFacts
 pub mod ChosenHeaps
 mod ChunksLeft
 pub mod Continued
+mod ExternalMeant
 pub mod FoundZones
 pub mod HallMoments
 pub mod Halted
@@ -19,6 +21,9 @@ pub mod LinesOrdered
 pub mod MadeHeaps
 pub mod Makers
 pub mod Mapped
+mod HeldArms
+mod LeftHere
+mod MadeHere
 mod MarksApart
 mod MayAttachHere
 pub mod MeantHeaps
@@ -32,6 +37,7 @@ pub mod Noted
 pub mod OrdinaryElements
 pub mod PagesStay
 pub mod Plans
+mod Permuted
 mod PoolsFrom
 mod Registered
 mod RegisteredHere
