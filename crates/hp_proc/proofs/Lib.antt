@@ -35,7 +35,6 @@ pub mod NotedLeft
 pub mod Noted
 pub mod OrdinaryElements
 pub mod PagesStay
-pub mod PlacesRead
 pub mod Plans
 mod PoolsFrom
 mod Registered
