@@ -6,6 +6,7 @@ pub mod ChosenHeaps
 pub mod ChunkLies
 mod ChunksLeft
 pub mod Continued
+mod DumpLines
 pub mod FoundZones
 pub mod HallMoments
 pub mod Halted
@@ -18,6 +19,7 @@ pub mod LineFacts
 pub mod LinesApart
 pub mod LinesInHall
 pub mod LinesOrdered
+mod LookedUp
 pub mod MadeHeaps
 pub mod Makers
 pub mod Mapped
