@@ -8,17 +8,12 @@ use Rattle.hp_segs.proofs.Finds.{find_mapped}
 use Rattle.hp_script.specs.declared.options.SocketChoice.{SocketChoice}
 use Rattle.hp_script.specs.declared.options.SocketChoice.TheVariants.{Any, Number}
 use Rattle.hp_proc.proofs.Mapped.{All-found, filter-mapped, map-listed}
-<<<<<<< HEAD
 use Rattle.hp_proc.specs.Contexts.{AreSocketHeaps, is_of_socket, named_heap, searched_heap}
 use Rattle.hp_proc.specs.Heaps.{NamedHeap, heaps_for, own_first, socket_heaps, takes_pages_of}
 use Rattle.hp_proc.specs.PlaceLists.{place_named}
 use Rattle.hp_proc.specs.declared.searched_heap.SearchedHeap.{SearchedHeap}
 use Rattle.hp_proc.proofs.SocketHeapLemmas.{places_named}
 use Rattle.hp_base.specs.declared.pool_line.PoolLine.{PoolLine}
-=======
-use Rattle.hp_proc.specs.Contexts.{is_of_socket, named_heap}
-use Rattle.hp_proc.specs.Heaps.{NamedHeap, heaps_for, own_first, takes_pages_of}
->>>>>>> origin/zon
 use Rattle.hp_proc.specs.declared.socket_heap.SocketHeap.{SocketHeap}
 
 -- that of a socket

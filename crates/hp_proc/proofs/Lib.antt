@@ -28,10 +28,7 @@ pub mod MeantHeaps
 pub mod NamedPlaces
 pub mod NamesFollow
 pub mod NamesAround
-<<<<<<< HEAD
-=======
 pub mod WhosePages
->>>>>>> origin/zon
 mod NamesHeld
 mod NamesRead
 pub mod NotedCame
