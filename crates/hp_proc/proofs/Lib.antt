@@ -55,6 +55,5 @@ pub mod StepsOrdered
 pub mod TreeDeeds
 pub mod Unarmed
 pub mod WorkedLines
-pub mod ZoneAgrees
 pub mod ZoneElements
 pub mod ZoneNames

@@ -135,13 +135,13 @@ module _ (at addr : ℕ) (names given : NamesView) (namings : ℕ → Naming) (c
       let zone = put.zone in
       let old = names.zones.zones in
       let here : places at given.zones.zones ≡ places at old ++ addr ∷ [] =
-      ap (places at) put.zones ∙ (places_parts 1 old (zone ∷ []) ∙ ap (λ (l : List ℕ). places at old ++ l) (places_own 1 zone [] put.heap ∙ ap (λ (a : ℕ). a ∷ []) put.at_is)) in
+      ap (places at) put.zones ∙ (places_parts at old (zone ∷ []) ∙ ap (λ (l : List ℕ). places at old ++ l) (places_own at zone [] put.heap ∙ ap (λ (a : ℕ). a ∷ []) put.at_is)) in
       let moved : IsPermutation (places at old ++ addr ∷ []) (map data_address naming.zones) =
       IsPermutation-trans _ _ _ (IsPermutation-to_front (places at old) addr)
       (IsPermutation-trans _ _ _ (IsPermutation-cons addr (places at old) (map data_address (namings at).zones) was.zones)
       (IsPermutation-sym (map data_address naming.zones) (addr ∷ map data_address (namings at).zones) more.zones)) in
       agree_one at naming namings given claims
-      (named_still names given 1 (namings at) naming put.heaps more.name more.socket more.chunks was
+      (named_still names given at (namings at) naming put.heaps more.name more.socket more.chunks was
       (subst (λ (l : List ℕ). IsPermutation l (map data_address naming.zones)) (sym here) moved))
       (λ index apart below.
       let same : places index given.zones.zones ≡ places index old =
@@ -161,16 +161,16 @@ module _ (at addr : ℕ) (names given : NamesView) (namings : ℕ → Naming) (c
       let zone = gone.zone in
       let both = gone.front ++ gone.back in
       let here : places at names.zones.zones ≡ places at gone.front ++ addr ∷ places at gone.back =
-      ap (places at) gone.were ∙ (places_parts 1 gone.front (zone ∷ gone.back)
-      ∙ ap (λ (l : List ℕ). places at gone.front ++ l) (places_own 1 zone gone.back gone.heap ∙ ap (λ (a : ℕ). a ∷ places at gone.back) gone.at_is)) in
-      let left : places at given.zones.zones ≡ places at gone.front ++ places at gone.back = ap (places at) gone.are ∙ places_parts 1 gone.front gone.back in
+      ap (places at) gone.were ∙ (places_parts at gone.front (zone ∷ gone.back)
+      ∙ ap (λ (l : List ℕ). places at gone.front ++ l) (places_own at zone gone.back gone.heap ∙ ap (λ (a : ℕ). a ∷ places at gone.back) gone.at_is)) in
+      let left : places at given.zones.zones ≡ places at gone.front ++ places at gone.back = ap (places at) gone.are ∙ places_parts at gone.front gone.back in
       let apart : IsPermutation (addr ∷ (places at gone.front ++ places at gone.back)) (places at gone.front ++ addr ∷ places at gone.back) =
       IsPermutation-sym (places at gone.front ++ addr ∷ places at gone.back) (addr ∷ (places at gone.front ++ places at gone.back)) (IsPermutation-middle (places at gone.front) addr (places at gone.back)) in
       let moved : IsPermutation (addr ∷ (places at gone.front ++ places at gone.back)) (addr ∷ map data_address naming.zones) =
       IsPermutation-trans _ _ _ apart
       (IsPermutation-trans _ _ _ (subst (λ (l : List ℕ). IsPermutation l (map data_address (namings at).zones)) here was.zones) more.zones) in
       agree_one at naming namings given claims
-      (named_still names given 1 (namings at) naming gone.heaps (sym more.name) (sym more.socket) (sym more.chunks) was
+      (named_still names given at (namings at) naming gone.heaps (sym more.name) (sym more.socket) (sym more.chunks) was
       (subst (λ (l : List ℕ). IsPermutation l (map data_address naming.zones)) (sym left)
       (without_one addr (places at gone.front ++ places at gone.back) (map data_address naming.zones) moved)))
       (λ index other below.
