@@ -55,5 +55,6 @@ pub mod StepsOrdered
 pub mod TreeDeeds
 pub mod Unarmed
 pub mod WorkedLines
+pub mod ZoneAgrees
 pub mod ZoneElements
 pub mod ZoneNames
