@@ -28,7 +28,6 @@ pub mod MeantHeaps
 pub mod NamedPlaces
 pub mod NamesFollow
 pub mod NamesAround
-pub mod WhosePages
 mod NamesHeld
 mod NamesRead
 pub mod NotedCame
