@@ -31,6 +31,7 @@ pub mod Mapped
 mod HeldArms
 mod LeftHere
 mod MadeHere
+mod MappedHere
 mod MarksApart
 mod MayAttachHere
 pub mod MeantHeaps

@@ -1,13 +1,16 @@
 -- A heap in hand beside the names while its holder took the segment value and gave it back with other external memory.
-use Rattle.std.proofs.Common.{◌+◌, ◌∙◌, ◌∷◌, ◌≡◌, Contains, List, None, Option, Some, [], ap, cond, eqb, length, map, option_map, refl, subst, sym, ℕ}
+use Rattle.std.proofs.Common.{◌+◌, ◌∙◌, ◌∷◌, ◌≡◌, ◌≤◌, Contains, List, None, Option, Some, [], ap, cond, eqb, length, map, option_map, refl, subst, sym, ℕ}
 use Rattle.std.specs.List.{range_with_len}
 use Rattle.hp_base.specs.declared.chunk.Chunk.{Chunk}
+use Rattle.hp_base.specs.declared.limits.TheConstants.{MAX_HEAPS}
 use Rattle.hp_hall.proofs.HallStates.{did_then, may_still}
 use Rattle.hp_hall.specs.AgreedNames.{chunk_memory}
 use Rattle.hp_hall.specs.Giving.{IsNumbered, entries_made}
-use Rattle.hp_hall.specs.HallState.{Did, HallState}
+use Rattle.hp_hall.specs.HallCalls.{HasTaken}
+use Rattle.hp_hall.specs.HallState.{Did, HallState, MayServe, OthersStay, SlotsStayBut}
 use Rattle.hp_hall.specs.Holding.{AreStanding, HeapPart, IsHeldWith, part_after}
 use Rattle.hp_hall.specs.Naming.{marked_by}
+use Rattle.hp_hall.specs.declared.kept.Kept.TheVariants.{Segments}
 use Rattle.hp_hall.specs.declared.slot.TheConstants.{NAMES_SLOT, SLOTS}
 use Rattle.hp_heap.specs.History.{HeapView}
 use Rattle.hp_heap.specs.declared.entry.Entry.{Entry}
@@ -21,11 +24,22 @@ use Rattle.hp_segs.specs.SegsView.{SegsView}
 use Rattle.hp_segs.specs.declared.external_range.ExternalRange.{ExternalRange}
 use Rattle.hp_serve.proofs.AskingFacts.AskKnown.{settled_more}
 use Rattle.hp_serve.proofs.Handed.{tied_still}
-use Rattle.hp_serve.proofs.SegmentSlots.{Took, gave_parts}
+use Rattle.hp_serve.proofs.SegmentSlots.{Took, gave_parts, may_hold}
 use Rattle.hp_serve.proofs.Standing.{standing_same, standing_with}
 use Rattle.hp_serve.specs.Asking.{HasSettledAsks}
 use Rattle.hp_serve.specs.SegmentSlot.{GivesBack, StaysButParts}
 use Rattle.hp_serve.specs.Serving.{gives_segments, takes_segments}
+
+-- the segment value was taken by whoever has that number
+pub took_by : {who me : ℕ} {segs : SegsView} {a b : HallState} → who ≡ me → MayServe me a → HasTaken who MAX_HEAPS (Segments segs) a b
+    → SlotsStayBut MAX_HEAPS a b → OthersStay who a b → b.measure ≤ a.measure → Took me segs a b
+took_by {who} {me} {segs} {a} {b} same may took slots others measure = record {
+  may = may_hold may;
+  took = subst (λ (w : ℕ). HasTaken w MAX_HEAPS (Segments segs) a b) same took;
+  slots = slots;
+  others = subst (λ (w : ℕ). OthersStay w a b) same others;
+  measure = measure;
+}
 
 -- what it knows of a heap but for the memory that is claimed
 pub record IsSameButClaims (old new : HeapPart) : Type 0 where
