@@ -8,6 +8,7 @@ pub mod ChunkLies
 mod ChunksLeft
 pub mod Continued
 mod ExternalMeant
+mod DumpLines
 pub mod FoundZones
 pub mod HallMoments
 pub mod Halted
@@ -21,6 +22,7 @@ pub mod LinesApart
 pub mod LinesInHall
 pub mod LinesOrdered
 pub mod Lookups
+mod LookedUp
 pub mod MadeHeaps
 pub mod Makers
 pub mod Mapped
@@ -41,7 +43,6 @@ pub mod NotedLeft
 pub mod Noted
 pub mod OrdinaryElements
 pub mod PagesStay
-pub mod PlacesRead
 pub mod Plans
 mod Permuted
 mod PoolsFrom
