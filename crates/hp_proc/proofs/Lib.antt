@@ -41,6 +41,7 @@ pub mod NotedCame
 pub mod NotedLeft
 pub mod Noted
 pub mod OrdinaryElements
+pub mod OwnNotes
 pub mod PagesStay
 pub mod Plans
 mod Permuted
