@@ -20,6 +20,7 @@ pub mod LinesApart
 pub mod LinesInHall
 pub mod LinesOrdered
 mod LookedUp
+pub mod Lookups
 pub mod MadeHeaps
 pub mod Makers
 pub mod Mapped
@@ -29,7 +30,6 @@ pub mod MeantHeaps
 pub mod NamedPlaces
 pub mod NamesFollow
 pub mod NamesAround
-pub mod WhosePages
 mod NamesHeld
 mod NamesRead
 pub mod NotedCame
@@ -54,4 +54,8 @@ mod StatsLines
 pub mod StepsOrdered
 pub mod TreeDeeds
 pub mod Unarmed
+pub mod WhosePages
 pub mod WorkedLines
+pub mod ZoneAgrees
+pub mod ZoneElements
+pub mod ZoneNames
