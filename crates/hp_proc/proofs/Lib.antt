@@ -1,4 +1,5 @@
 pub mod AddressLies
+mod AgreedLater
 pub mod AllocFacts
 pub mod AttachedLines
 pub mod HandFacts
@@ -7,6 +8,7 @@ pub mod ChunkLies
 mod ChunksLeft
 pub mod Continued
 mod DumpLines
+mod ExternalMeant
 pub mod FoundZones
 pub mod HallMoments
 pub mod Halted
@@ -24,6 +26,9 @@ pub mod Lookups
 pub mod MadeHeaps
 pub mod Makers
 pub mod Mapped
+mod HeldArms
+mod LeftHere
+mod MadeHere
 mod MarksApart
 mod MayAttachHere
 pub mod MeantHeaps
@@ -38,6 +43,7 @@ pub mod Noted
 pub mod OrdinaryElements
 pub mod PagesStay
 pub mod Plans
+mod Permuted
 mod PoolsFrom
 mod Registered
 mod RegisteredHere
