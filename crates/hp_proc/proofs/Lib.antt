@@ -61,6 +61,7 @@ mod StatsLines
 pub mod StepsOrdered
 pub mod TreeDeeds
 pub mod Unarmed
+pub mod WhosePages
 pub mod WorkedLines
 pub mod ZoneAgrees
 pub mod ZoneElements
