@@ -44,6 +44,7 @@ pub mod NotedCame
 pub mod NotedLeft
 pub mod Noted
 pub mod OrdinaryElements
+pub mod OwnNotes
 pub mod PagesStay
 pub mod Plans
 mod Permuted
@@ -63,6 +64,7 @@ mod StatsLines
 pub mod StepsOrdered
 pub mod TreeDeeds
 pub mod Unarmed
+pub mod WhosePages
 pub mod WorkedLines
 pub mod ZoneAgrees
 pub mod ZoneElements
