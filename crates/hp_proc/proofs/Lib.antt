@@ -28,6 +28,7 @@ pub mod MeantHeaps
 pub mod NamedPlaces
 pub mod NamesFollow
 pub mod NamesAround
+pub mod NamesBeside
 mod NamesHeld
 mod NamesRead
 pub mod NotedCame
