@@ -1,5 +1,6 @@
 pub mod AddressLies
 pub mod AllocFacts
+pub mod AllocLines
 pub mod AttachedLines
 pub mod HandFacts
 pub mod ChosenHeaps
@@ -45,6 +46,7 @@ pub mod RegisteredLines
 pub mod ReleasedMemory
 pub mod ServesAside
 pub mod WaitsAside
+pub mod ServedLines
 mod SharedMarks
 mod Reservations
 pub mod Rising
