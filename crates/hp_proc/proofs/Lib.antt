@@ -1,4 +1,5 @@
 pub mod AddressLies
+mod AgreedLater
 pub mod AllocFacts
 pub mod AllocLines
 pub mod AttachedLines
@@ -7,6 +8,8 @@ pub mod ChosenHeaps
 pub mod ChunkLies
 mod ChunksLeft
 pub mod Continued
+mod DumpLines
+mod ExternalMeant
 pub mod FoundZones
 pub mod HallMoments
 pub mod Halted
@@ -19,10 +22,14 @@ pub mod LineFacts
 pub mod LinesApart
 pub mod LinesInHall
 pub mod LinesOrdered
+mod LookedUp
 pub mod Lookups
 pub mod MadeHeaps
 pub mod Makers
 pub mod Mapped
+mod HeldArms
+mod LeftHere
+mod MadeHere
 mod MarksApart
 mod MayAttachHere
 pub mod MeantHeaps
@@ -37,8 +44,8 @@ pub mod NotedLeft
 pub mod Noted
 pub mod OrdinaryElements
 pub mod PagesStay
-pub mod PlacesRead
 pub mod Plans
+mod Permuted
 mod PoolsFrom
 mod Registered
 mod RegisteredHere
@@ -56,6 +63,7 @@ mod StatsLines
 pub mod StepsOrdered
 pub mod TreeDeeds
 pub mod Unarmed
+pub mod WhosePages
 pub mod WorkedLines
 pub mod ZoneAgrees
 pub mod ZoneElements

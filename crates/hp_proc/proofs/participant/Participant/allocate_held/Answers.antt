@@ -23,3 +23,13 @@ use Rattle.hp_proc.proofs.HandFacts.HandSearched.{found_again, found_first, foun
 use Rattle.hp_proc.proofs.HandFacts.Holds.{holds_on, keeps_then}
 use Rattle.hp_proc.proofs.participant.Participant.allocate_held.Goals as goal
 
+-- the flags of the first search, as the names have the heap
+asked_is : (its : NamedHeap) (place : SearchedHeap) (request asked : Request) (flags : ℕ) → place_named its ≡ place
+    → flags ≡ first_flags place.serves request.flags → asked ≡ with_flags flags request → asked ≡ with_flags (first_flags its.serves request.flags) request
+asked_is its place request asked flags named is asks =
+    asks
+    ∙ ap (λ (flags : ℕ). with_flags flags request)
+    (is ∙ ap (λ (place : SearchedHeap). first_flags place.serves request.flags) (sym named))
+
+index_is : (its : NamedHeap) (place : SearchedHeap) → place_named its ≡ place → its.index ≡ place.index
+index_is its place named = ap (λ (place : SearchedHeap). place.index) named

@@ -14,20 +14,22 @@ use Rattle.hp_proc.specs.PlaceLists.{place_named}
 use Rattle.hp_proc.specs.SharedNames.{heaps_in}
 use Rattle.hp_proc.proofs.HandFacts.Holds.{knew_same}
 use Rattle.hp_proc.proofs.NamesRead.{as_leaves, names_read, ready_read}
-use Rattle.hp_proc.proofs.PlacesRead.{places_read}
+use Rattle.hp_proc.proofs.WhosePages.{named_places}
 use Rattle.hp_serve.proofs.AskingFacts.AskedAlong.{on_err_any}
 use Rattle.hp_proc.proofs.participant.Participant.read_place.Goals as goal
 
 pub place_of-found-requires : goal.place_of-found-requires
 place_of-found-requires g c = record { sound = c.in_ok-names.ensures.held.sound.1 }
 
-pub give_names-requires-clause-may : goal.give_names-requires-clause-may
-give_names-requires-clause-may g c =
+pub give_names-requires : goal.give_names-requires
+give_names-requires g c =
     let held = c.in_ok-names.ensures.held in
     let at = g.H.Hall.state c.take_names.new.hall in
     record {
-      serves = subst at.serves (sym held.same.me) held.but.serves;
-      gives = subst (λ (who : ℕ). IsGiveOf (known_to who at) NAMES_SLOT (Names c.in_ok-names.names)) (sym held.same.me) held.gives;
+      may = record {
+        serves = subst at.serves (sym held.same.me) held.but.serves;
+        gives = subst (λ (who : ℕ). IsGiveOf (known_to who at) NAMES_SLOT (Names c.in_ok-names.names)) (sym held.same.me) held.gives;
+      };
     }
 
 pub returns : goal.returns
@@ -53,7 +55,7 @@ returns g c =
         read = record {
           sockets = sockets;
           leaves = as_leaves doer names held.sound.1 sockets;
-          places = places_read doer.context.pools names.heaps held.sound.1 sockets;
+          places = named_places names.heaps held.sound.1 doer.context.pools sockets;
           context = held.context;
           reads = names_read doer mid names old at new held gave is.slots others;
         };
