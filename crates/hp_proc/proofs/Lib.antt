@@ -3,6 +3,7 @@ mod AgreedLater
 pub mod AllocFacts
 pub mod AllocLines
 pub mod AttachedLines
+pub mod AwaitedLines
 pub mod HandFacts
 pub mod ChosenHeaps
 pub mod ChunkLies
