@@ -1,7 +1,9 @@
 pub mod AddressLies
 mod AgreedLater
 pub mod AllocFacts
+pub mod AllocLines
 pub mod AttachedLines
+pub mod AwaitedLines
 pub mod HandFacts
 pub mod ChosenHeaps
 pub mod ChunkLies
@@ -38,6 +40,7 @@ pub mod MeantHeaps
 pub mod NamedPlaces
 pub mod NamesFollow
 pub mod NamesAround
+pub mod NamesBeside
 mod NamesHeld
 mod NamesRead
 pub mod NotedCame
@@ -55,6 +58,7 @@ pub mod RegisteredLines
 pub mod ReleasedMemory
 pub mod ServesAside
 pub mod WaitsAside
+pub mod ServedLines
 mod SharedMarks
 mod Reservations
 pub mod Rising
