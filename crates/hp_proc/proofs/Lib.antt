@@ -9,8 +9,8 @@ pub mod ChosenHeaps
 pub mod ChunkLies
 mod ChunksLeft
 pub mod Continued
-mod DumpLines
 mod ExternalMeant
+mod DumpLines
 pub mod FoundZones
 pub mod HallMoments
 pub mod Halted
@@ -23,8 +23,8 @@ pub mod LineFacts
 pub mod LinesApart
 pub mod LinesInHall
 pub mod LinesOrdered
-mod LookedUp
 pub mod Lookups
+mod LookedUp
 pub mod MadeHeaps
 pub mod Makers
 pub mod Mapped
@@ -44,6 +44,7 @@ pub mod NotedCame
 pub mod NotedLeft
 pub mod Noted
 pub mod OrdinaryElements
+pub mod OwnNotes
 pub mod PagesStay
 pub mod Plans
 mod Permuted
