@@ -21,6 +21,7 @@ pub mod HandSearched
 pub mod HandNamed
 >>>>>>> origin/hands
 pub mod HandTied
+pub mod HandTraded
 pub mod HandTried
 pub mod HeldBack
 pub mod HeldOn

@@ -7,6 +7,8 @@ pub mod AwaitedLines
 pub mod HandFacts
 pub mod ChosenHeaps
 pub mod ChunkLies
+mod AddedHere
+mod ChunkCame
 mod ChunksLeft
 pub mod Continued
 mod ExternalMeant
@@ -31,6 +33,7 @@ pub mod Mapped
 mod HeldArms
 mod LeftHere
 mod MadeHere
+mod MappedHere
 mod MarksApart
 mod MayAttachHere
 pub mod MeantHeaps
