@@ -158,6 +158,7 @@ event_behind denied event core segs =
 pub handles_behind : {count who : ℕ} {old new : Seat} {taken given : SegsView} → Handles count who old new taken given
     → HasLater taken given
 handles_behind (Handles.looks seat segs) = none_behind segs
+handles_behind (Handles.moves_ranges seat segs ranges moves) = none_behind segs
 handles_behind (Handles.steps seat segs event core is its knows denied may) = event_behind denied event core segs
 handles_behind (Handles.maps seat segs caught table now core is its caught_up) = event_behind None (SelfMapped caught now) core segs
 handles_behind {count} {who} (Handles.follows seat segs caught table member caught_up) =

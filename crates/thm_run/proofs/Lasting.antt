@@ -25,9 +25,13 @@ quietly_on : {old new : Seat} → Quietly old new → GoesOn old new
 quietly_on (Quietly.hears seat answered) = still seat.trace
 quietly_on (Quietly.counts seat sent) = still seat.trace
 quietly_on (Quietly.calls seat heap call answer none) = with_more seat.trace (Done.Called heap call answer ∷ [])
-quietly_on (Quietly.notes seat standing) = still seat.trace
+quietly_on (Quietly.notes seat elements chunks) = still seat.trace
 quietly_on (Quietly.reads_names seat names) = with_more seat.trace (Done.NamesRead names ∷ [])
 quietly_on (Quietly.reads_stats seat heap counted) = with_more seat.trace (Done.StatsRead heap counted ∷ [])
+quietly_on (Quietly.changes_names seat change) = with_more seat.trace (Done.NamesChanged change ∷ [])
+quietly_on (Quietly.sees_heap seat heap history) = with_more seat.trace (Done.HeapSeen heap history ∷ [])
+quietly_on (Quietly.maps_chunk seat chunk maps ended is) = with_more seat.trace (Done.ChunkMapped chunk ended ∷ [])
+quietly_on (Quietly.leaves_chunk seat chunk maps is) = still seat.trace
 quietly_on (Quietly.ends_line seat deed given) = still seat.trace
 
 mails_on : {who : ℕ} {old new : Seat} {step : MailStep} → Mails who old new step → GoesOn old new
@@ -40,6 +44,7 @@ mails_on (Mails.speaks seat to frame body action posted nothing says) = still se
 
 handles_on : {count who : ℕ} {old new : Seat} {taken given : SegsView} → Handles count who old new taken given → GoesOn old new
 handles_on (Handles.looks seat segs) = still seat.trace
+handles_on (Handles.moves_ranges seat segs ranges moves) = still seat.trace
 handles_on (Handles.steps seat segs event core is its knows denied may) = still seat.trace
 handles_on (Handles.maps seat segs caught table now core is its caught_up) = still seat.trace
 handles_on (Handles.follows seat segs caught table member caught_up) = still seat.trace

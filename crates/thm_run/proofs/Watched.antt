@@ -210,9 +210,13 @@ pub quietly_watched : {old new : Seat} (log : List LogRecord) → Quietly old ne
 quietly_watched log (Quietly.hears seat answered) was = same_watched seat.party _ seat.standing.watchers refl refl refl was
 quietly_watched log (Quietly.counts seat sent) was = same_watched seat.party _ seat.standing.watchers refl refl refl was
 quietly_watched log (Quietly.calls seat heap call answer none) was = was
-quietly_watched log (Quietly.notes seat elements) was = was
+quietly_watched log (Quietly.notes seat elements chunks) was = was
 quietly_watched log (Quietly.reads_names seat names) was = was
 quietly_watched log (Quietly.reads_stats seat heap counted) was = was
+quietly_watched log (Quietly.changes_names seat change) was = was
+quietly_watched log (Quietly.sees_heap seat heap history) was = was
+quietly_watched log (Quietly.maps_chunk seat chunk maps ended is) was = was
+quietly_watched log (Quietly.leaves_chunk seat chunk maps is) was = was
 quietly_watched log (Quietly.ends_line seat deed given) was = ended_watched log deed given seat.party seat.standing.watchers was
 
 pub mails_watched : {who : ℕ} {old new : Seat} {step : MailStep} (log : List LogRecord) → Mails who old new step → IsWatched log old
@@ -235,6 +239,7 @@ tried_watchers records (caught.Elsewhere row call got) standing = refl
 pub handles_watched : {count who : ℕ} {old new : Seat} {taken given : SegsView} → LogIsPlaced → Handles count who old new taken given → IsSound taken
     → IsWatched taken.log old → IsWatched taken.log new
 handles_watched log_is_placed (Handles.looks seat segs) sound was = was
+handles_watched log_is_placed (Handles.moves_ranges seat segs ranges moves) sound was = was
 handles_watched log_is_placed (Handles.steps seat segs event core is its knows denied may) sound was =
     same_watched seat.party _ seat.standing.watchers refl refl refl was
 handles_watched log_is_placed (Handles.maps seat segs ended table now core is its caught_up) sound was =

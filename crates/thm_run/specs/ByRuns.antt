@@ -15,7 +15,7 @@ use Rattle.hp_proc.specs.Doing.{Done}
 use Rattle.hp_proc.specs.Ends.{HaveGoneBack, KeepsCalls}
 use Rattle.hp_proc.specs.Histories.{entries_for}
 use Rattle.hp_proc.specs.Outcomes.{AreAskedFor, IsRefusedIn}
-use Rattle.hp_proc.specs.Seen.{AreRefusals}
+use Rattle.hp_proc.specs.Handed.{AreOwnFailures}
 use Rattle.hp_weave.specs.Deeds.{Gathering}
 use Rattle.hp_weave.specs.Holds.{Hold}
 use Rattle.thm_run.specs.Apart.{CameTogether}
@@ -73,7 +73,7 @@ pub record HasByRun (workload : Workload) (did : ℕ → List Done) (segs : Segs
   pub external : segs.ranges ≡ []
   pub asked_for : segs.growth ≡ None → AreAskedFor segs
   pub causes : All (IsRefusedIn workload) segs.asks
-  pub refusals : (who : ℕ) → AreRefusals segs.log (did who)
+  pub refusals : (who : ℕ) → AreOwnFailures segs.log (did who)
   pub gone : (heaps : List HeapView) → KeepsCalls did heaps → AreOfHeaps did heaps → HaveGoneBack heaps segs
   pub nobody_else : (who : ℕ) → workload.participants ≤ who → is_member segs.roster who ≡ false
 

@@ -15,7 +15,7 @@ use Rattle.hp_serve.specs.Serving.{gives_segments}
 use Rattle.hp_serve.specs.declared.pages_asked.PagesAsked.{PagesAsked}
 use Rattle.hp_proc.specs.Courses.{numbered_in}
 use Rattle.hp_proc.specs.Doing.{Done}
-use Rattle.hp_proc.specs.Doing.Done.{Asked, Called, CaughtUp, GaveUp, Looked, NamesRead, StatsRead}
+use Rattle.hp_proc.specs.Doing.Done.{Asked, Called, CaughtUp, ChunkMapped, GaveUp, HeapSeen, Looked, NamesChanged, NamesRead, StatsRead}
 use Rattle.hp_weave.specs.Holds.{Hold}
 use Rattle.thm_run.proofs.SeatFacts.LogAlong.{core_logged}
 use Rattle.thm_run.proofs.Following.{attaching_leaves, catching_leaves}
@@ -114,7 +114,7 @@ module _ (who : ℕ) where
         DoesInHolds.calls number heap call answer rest.more _
         (rest.does number (rest_none (Called heap call answer ∷ []) rest.more asks));
   }
-  quietly_then (Quietly.notes seat elements) rest = record { more = rest.more; trace = rest.trace; does = rest.does }
+  quietly_then (Quietly.notes seat elements chunks) rest = record { more = rest.more; trace = rest.trace; does = rest.does }
   quietly_then (Quietly.reads_names seat names) rest = record {
     more = NamesRead names ∷ rest.more;
     trace = adds_then seat.trace (NamesRead names ∷ []) rest.more _ rest.trace;
@@ -129,6 +129,28 @@ module _ (who : ℕ) where
         DoesInHolds.reads_stats number heap counted rest.more _
         (rest.does number (rest_none (StatsRead heap counted ∷ []) rest.more asks));
   }
+  quietly_then (Quietly.changes_names seat change) rest = record {
+    more = NamesChanged change ∷ rest.more;
+    trace = adds_then seat.trace (NamesChanged change ∷ []) rest.more _ rest.trace;
+    does = λ number asks.
+        DoesInHolds.reads_stats number heap counted rest.more _
+        (rest.does number (rest_none (NamesChanged change ∷ []) rest.more asks));
+  }
+  quietly_then (Quietly.sees_heap seat heap history) rest = record {
+    more = HeapSeen heap history ∷ rest.more;
+    trace = adds_then seat.trace (HeapSeen heap history ∷ []) rest.more _ rest.trace;
+    does = λ number asks.
+        DoesInHolds.reads_stats number heap counted rest.more _
+        (rest.does number (rest_none (HeapSeen heap history ∷ []) rest.more asks));
+  }
+  quietly_then (Quietly.maps_chunk seat chunk maps ended is) rest = record {
+    more = ChunkMapped chunk ended ∷ rest.more;
+    trace = adds_then seat.trace (ChunkMapped chunk ended ∷ []) rest.more _ rest.trace;
+    does = λ number asks.
+        DoesInHolds.reads_stats number heap counted rest.more _
+        (rest.does number (rest_none (ChunkMapped chunk ended ∷ []) rest.more asks));
+  }
+  quietly_then (Quietly.leaves_chunk seat chunk maps is) rest = record { more = rest.more; trace = rest.trace; does = rest.does }
   quietly_then (Quietly.ends_line seat deed given) rest = record { more = rest.more; trace = rest.trace; does = rest.does }
 
   mails_then : {old mid new : Seat} {step : MailStep} {holds : List (Hold SegsView)} → Mails who old mid step
@@ -159,6 +181,7 @@ module _ (who : ℕ) where
   handles_then : {count : ℕ} {old mid new : Seat} {taken given : SegsView} {holds : List (Hold SegsView)} → Handles count who old mid taken given
       → HasArmedGrowth taken → IsDoneInHolds who mid new holds → IsDoneInHolds who old new (held_by who taken given ∷ holds)
   handles_then (Handles.looks seat segs) growth rest = passes_then segs segs refl refl rest
+  handles_then (Handles.moves_ranges seat segs ranges moves) growth rest = passes_then segs segs refl refl rest
   handles_then (Handles.steps seat segs event core zero its knows denied may) growth rest =
       passes_then segs _ refl (ap (λ armed. slice_index_or armed who None) (core_logged denied event core segs growth).armed) rest
   handles_then (Handles.maps seat segs caught table now core zero its up) growth rest =

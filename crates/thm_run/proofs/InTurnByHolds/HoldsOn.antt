@@ -36,6 +36,7 @@ use Rattle.thm_run.specs.Seats.{Handles, Seat}
 pub others_armed : {count who : ℕ} {old new : Seat} {taken given : SegsView} → Handles count who old new taken given → HasArmedGrowth taken
     → (other : ℕ) → other ≢ who → armed_ask given other ≡ armed_ask taken other
 others_armed (Handles.looks seat segs) growth other apart = refl
+others_armed (Handles.moves_ranges seat segs ranges moves) growth other apart = refl
 others_armed (Handles.steps seat segs event core zero its knows denied may) growth other apart =
     ap (λ armed. slice_index_or armed other None) (core_logged denied event core segs growth).armed
 others_armed (Handles.maps seat segs caught table now core zero its up) growth other apart =
@@ -96,6 +97,7 @@ answers_same old mid new same answers entry ask among is =
 pub answers_armed : {count who : ℕ} {old new : Seat} {taken given : SegsView} → Handles count who old new taken given → HasArmedGrowth taken
     → AnswersOfArmed taken given
 answers_armed (Handles.looks seat segs) growth = answers_none segs segs refl
+answers_armed (Handles.moves_ranges seat segs ranges moves) growth = answers_none segs segs refl
 answers_armed (Handles.steps seat segs event core zero its knows denied may) growth =
     steps_answer_armed (λ socket total. denied) event core (with_room segs) growth
 answers_armed (Handles.maps seat segs caught table now core zero its up) growth =

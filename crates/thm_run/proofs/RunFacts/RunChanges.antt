@@ -62,11 +62,19 @@ module _ (deadline : ℕ) (may_fail : ℕ → Option (List FailingCall)) (who : 
       record { me = was.me; its_deadline = was.its_deadline; its_may_fail = was.its_may_fail; waits = was.waits; judged = was.judged }
   quietly_steady (Quietly.calls seat heap call answer none) was =
       record { me = was.me; its_deadline = was.its_deadline; its_may_fail = was.its_may_fail; waits = was.waits; judged = was.judged }
-  quietly_steady (Quietly.notes seat standing) was =
+  quietly_steady (Quietly.notes seat elements chunks) was =
       record { me = was.me; its_deadline = was.its_deadline; its_may_fail = was.its_may_fail; waits = was.waits; judged = was.judged }
   quietly_steady (Quietly.reads_names seat names) was =
       record { me = was.me; its_deadline = was.its_deadline; its_may_fail = was.its_may_fail; waits = was.waits; judged = was.judged }
   quietly_steady (Quietly.reads_stats seat heap counted) was =
+      record { me = was.me; its_deadline = was.its_deadline; its_may_fail = was.its_may_fail; waits = was.waits; judged = was.judged }
+  quietly_steady (Quietly.changes_names seat change) was =
+      record { me = was.me; its_deadline = was.its_deadline; its_may_fail = was.its_may_fail; waits = was.waits; judged = was.judged }
+  quietly_steady (Quietly.sees_heap seat heap history) was =
+      record { me = was.me; its_deadline = was.its_deadline; its_may_fail = was.its_may_fail; waits = was.waits; judged = was.judged }
+  quietly_steady (Quietly.maps_chunk seat chunk maps ended is) was =
+      record { me = was.me; its_deadline = was.its_deadline; its_may_fail = was.its_may_fail; waits = was.waits; judged = was.judged }
+  quietly_steady (Quietly.leaves_chunk seat chunk maps is) was =
       record { me = was.me; its_deadline = was.its_deadline; its_may_fail = was.its_may_fail; waits = was.waits; judged = was.judged }
   quietly_steady (Quietly.ends_line seat deed given) was = record {
     me = was.me;
@@ -100,6 +108,7 @@ module _ (deadline : ℕ) (may_fail : ℕ → Option (List FailingCall)) (who : 
 
   pub handles_steady : {count : ℕ} {old new : Seat} {taken given : SegsView} → Handles count who old new taken given → Steady old → Steady new
   handles_steady (Handles.looks seat segs) was = was
+  handles_steady (Handles.moves_ranges seat segs ranges moves) was = was
   handles_steady (Handles.steps seat segs event core is its knows denied may) was =
       let waits = waits_on denied event core segs (was.waits core its) in
       record { me = was.me; its_deadline = was.its_deadline; its_may_fail = was.its_may_fail; waits = waits; judged = was.judged }
@@ -157,6 +166,7 @@ module _ (count deadline : ℕ) (may_fail : ℕ → Option (List FailingCall)) (
       → IsSteady deadline may_fail who old → (who ≡ 0 → IsWithin (denials_of old.standing) denies) → IsSound taken → HasArmedGrowth taken
       → Changes count deadline may_fail denies taken given
   handles_changes (Handles.looks seat segs) was within sound armed = stays segs
+  handles_changes (Handles.moves_ranges seat segs ranges moves) was within sound armed = stays segs
   handles_changes (Handles.steps seat segs event core is its knows denied may) was within sound armed =
       coordinates denied event core segs (was.waits core its) sound (known_reason count may_fail seat event knows)
       (may_within (denials_of seat.standing) denies (within is) (judged_at event core (with_room segs)) denied may)

@@ -74,6 +74,7 @@ core_records denied event core segs armed =
 handles_records : {count who : ℕ} {old new : Seat} {taken given : SegsView} → Handles count who old new taken given → HasArmedGrowth taken
     → HasRecords taken.log given.log
 handles_records (Handles.looks seat segs) armed = same_records segs.log segs.log refl
+handles_records (Handles.moves_ranges seat segs ranges moves) armed = same_records segs.log segs.log refl
 handles_records (Handles.steps seat segs event core is its knows denied may) armed = core_records denied event core segs armed
 handles_records (Handles.maps seat segs caught table now core is its caught_up) armed = core_records None (SelfMapped caught now) core segs armed
 handles_records {count} {who} (Handles.follows seat segs caught table member caught_up) armed =

@@ -96,6 +96,7 @@ module _ (count : ℕ) (steps : ℕ → List MailStep) where
   handles_told : {who : ℕ} {old new : Seat} {taken given : SegsView} → Handles count who old new taken given → HasArmedGrowth taken
       → (who ≡ 0 → HoldsTold old) → (who ≡ 0 → ArePosted steps old) → FreedAreTold steps taken → FreedAreTold steps given
   handles_told (Handles.looks seat segs) growth held posted told = told
+  handles_told (Handles.moves_ranges seat segs ranges moves) growth held posted told = told
   handles_told (Handles.steps seat segs event core zero has knows denied may) growth held posted told =
       logged_told (with_room segs) (stepping denied event core segs).segs
       (step_logs WasTold (λ socket total. denied) event core (with_room segs) (brings_told seat event (posted zero) knows) (held zero core has) growth).asks
@@ -120,6 +121,7 @@ module _ (count : ℕ) (steps : ℕ → List MailStep) where
   handles_held : {who : ℕ} {old new : Seat} {taken given : SegsView} → Handles count who old new taken given → who ≡ 0 → HoldsTold old
       → ArePosted steps old → HoldsTold new
   handles_held (Handles.looks seat segs) primary held posted one is = held one is
+  handles_held (Handles.moves_ranges seat segs ranges moves) primary held posted one is = held one is
   handles_held (Handles.steps seat segs event core zero has knows denied may) primary held posted other is =
       subst (λ (core : Core). AreHeld WasTold core.held) (same_Some (stepping denied event core segs).core other is)
       (step_keeps WasTold (λ socket total. denied) event core (with_room segs) (brings_told seat event posted knows) (held core has))
