@@ -46,6 +46,6 @@ pub use laws::{generated_law, lines_law, once_law, reading_law, verbs_law};
 pub use line::{Act, Line};
 pub use options::{Options, SocketChoice};
 pub use parse_fault::ParseFault;
-pub use parsing::{parse, read};
+pub use parsing::parse;
 pub use token::Token;
 pub use workload::Workload;
