@@ -56,7 +56,7 @@ module _ (count : ℕ) (last : Gathering Seat SegsView) where
   own_armed (Handles.cuts seat segs heap addr run) growth ask is = inl is
   own_armed {who} (Handles.attaches seat segs caught after tried) growth ask is =
       inl (sym (ap (λ armed. slice_index_or armed who None) (attaching_leaves who caught segs).armed) ∙ is)
-  own_armed (Handles.detaches seat segs told secondary heard) growth ask is = inl is
+  own_armed (Handles.detaches seat segs told secondary none heard) growth ask is = inl is
 
   -- a seat has come from one that had taken no more numbers
   record CameFrom (at : Gathering Seat SegsView) (who : ℕ) (seat : Seat) : Type 0 where

@@ -30,6 +30,7 @@ quietly_on (Quietly.reads_names seat names) = with_more seat.trace (Done.NamesRe
 quietly_on (Quietly.reads_stats seat heap counted) = with_more seat.trace (Done.StatsRead heap counted ∷ [])
 quietly_on (Quietly.changes_names seat change) = with_more seat.trace (Done.NamesChanged change ∷ [])
 quietly_on (Quietly.sees_heap seat heap history) = with_more seat.trace (Done.HeapSeen heap history ∷ [])
+quietly_on (Quietly.plans_range seat addr len page plan) = with_more seat.trace (Done.RangePlanned addr len page plan ∷ [])
 quietly_on (Quietly.maps_chunk seat chunk maps ended is) = with_more seat.trace (Done.ChunkMapped chunk ended ∷ [])
 quietly_on (Quietly.leaves_chunk seat chunk maps is) = still seat.trace
 quietly_on (Quietly.ends_line seat deed given) = still seat.trace
@@ -55,7 +56,7 @@ handles_on (Handles.cuts seat segs heap addr run) =
     with_more seat.trace (Done.Called heap (call.Cut addr) (gives.Pages run) ∷ [])
 handles_on (Handles.attaches seat segs caught after tried) =
     with_more seat.trace (Done.Looked (length segs.log) ∷ Done.CaughtUp (length segs.log) caught ∷ [])
-handles_on (Handles.detaches seat segs told secondary heard) = still seat.trace
+handles_on (Handles.detaches seat segs told secondary none heard) = still seat.trace
 
 module _ (seats : List Seat) (who : ℕ) (old new : Seat) (there : slice_get seats who ≡ Some old) where
   seat_on : GoesOn old new → AreLater (numbers_of seats) (numbers_of (slice_set seats who new))

@@ -28,6 +28,7 @@ quietly_lines (Quietly.reads_names seat names) = same seat _ refl
 quietly_lines (Quietly.reads_stats seat heap counted) = same seat _ refl
 quietly_lines (Quietly.changes_names seat change) = same seat _ refl
 quietly_lines (Quietly.sees_heap seat heap history) = same seat _ refl
+quietly_lines (Quietly.plans_range seat addr len page plan) = same seat _ refl
 quietly_lines (Quietly.maps_chunk seat chunk maps ended is) = same seat _ refl
 quietly_lines (Quietly.leaves_chunk seat chunk maps is) = same seat _ refl
 quietly_lines (Quietly.ends_line seat deed given) = record { more = line_ended deed given seat ∷ []; is = refl }
@@ -51,7 +52,7 @@ handles_lines (Handles.claims seat segs) = same seat seat refl
 handles_lines (Handles.settles seat segs since now late) = same seat seat refl
 handles_lines (Handles.cuts seat segs heap addr run) = same seat _ refl
 handles_lines (Handles.attaches seat segs caught after tried) = same seat _ refl
-handles_lines (Handles.detaches seat segs told secondary heard) = same seat _ refl
+handles_lines (Handles.detaches seat segs told secondary none heard) = same seat _ refl
 
 -- judges may deny what the lines that have ended register, of every participant
 abbrev pub MayDenyByLines : Denials → GlobalState → Type 0

@@ -34,8 +34,9 @@ quietly_set (Quietly.reads_names seat names) = record { me = refl; deadline = re
 quietly_set (Quietly.reads_stats seat heap counted) = record { me = refl; deadline = refl; may_fail = refl }
 quietly_set (Quietly.changes_names seat change) = record { me = refl; deadline = refl; may_fail = refl }
 quietly_set (Quietly.sees_heap seat heap history) = record { me = refl; deadline = refl; may_fail = refl }
-quietly_set (Quietly.maps_chunk seat chunk maps ended is) = record { me = refl; deadline = refl; may_fail = refl }
-quietly_set (Quietly.leaves_chunk seat chunk maps is) = record { me = refl; deadline = refl; may_fail = refl }
+quietly_set (Quietly.plans_range seat addr len page plan) = record { me = refl; deadline = refl; may_fail = refl }
+quietly_set (Quietly.maps_chunk seat chunk maps ended is) = record { me = refl; deadline = refl; may_fail = is.others.may_fail }
+quietly_set (Quietly.leaves_chunk seat chunk maps is) = record { me = refl; deadline = refl; may_fail = is.others.may_fail }
 quietly_set (Quietly.ends_line seat deed given) = record { me = refl; deadline = refl; may_fail = refl }
 
 mails_set : {who : ℕ} {old new : Seat} {step : MailStep} → Mails who old new step → IsSetAs old new
@@ -68,7 +69,7 @@ handles_set (Handles.attaches seat segs caught after tried) = record {
   may_fail =
       ap (λ party. party.maps.may_fail) tried.after_is ∙ (left_may_fail caught tried.maps ∙ tried.caught_up.stays);
 }
-handles_set (Handles.detaches seat segs told secondary heard) = record { me = refl; deadline = refl; may_fail = refl }
+handles_set (Handles.detaches seat segs told secondary none heard) = record { me = refl; deadline = refl; may_fail = refl }
 
 -- a participant keeps its settings on its way
 pub path_set : {count who : ℕ} {old new : Seat} {steps : List MailStep} → SeatTrace count who old new steps → IsSetAs old new

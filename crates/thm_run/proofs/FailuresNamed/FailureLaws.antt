@@ -14,8 +14,7 @@ use Rattle.hp_segs.specs.SegsView.{SegsView, is_member}
 use Rattle.hp_proc.specs.LinesDone.{Course, courses_of, opening_standing, standing_after, trace_of}
 use Rattle.hp_proc.specs.Outcomes.{AreAskedFor, IsRefusedIn}
 use Rattle.hp_serve.specs.Party.{Party}
-use Rattle.hp_proc.specs.Seen.{IsRefusedRow}
-use Rattle.hp_proc.specs.Handed.{AreOwnFailures, calls_failed}
+use Rattle.hp_proc.specs.Handed.{AreOwnFailures, IsFailureOfItsRow, calls_failed}
 use Rattle.thm_run.proofs.PathSteps.ByMail.{run_of}
 use Rattle.thm_run.specs.EndLaws.{FailsByReason, FailsOnce, RefusesByReason, RefusesOnce}
 use Rattle.thm_run.specs.Seats.{Seat}
@@ -79,7 +78,7 @@ module _ (workload : Workload) (courses : List Course) (parties : List Party) (h
     where
       none_refused : AreOwnFailures so.now.segs.log []
       none_refused = record {
-        rows = All-nil (IsRefusedRow so.now.segs.log);
+        rows = All-nil (IsFailureOfItsRow so.now.segs.log);
         some = All-nil (λ number. 0 < number);
         rising = λ k within. omega (arith, within);
       }

@@ -9,9 +9,8 @@ use Rattle.hp_base.specs.Mapping.{may_fail_at}
 use Rattle.hp_base.specs.declared.pool_line.PoolLine.{PoolLine}
 use Rattle.hp_log.specs.declared.log_record.LogRecord.{LogRecord}
 use Rattle.hp_proc.specs.Doing.{Done}
-use Rattle.hp_proc.specs.Doing.Done.{CaughtUp, Looked}
-use Rattle.hp_proc.specs.Seen.{IsRefusedRow}
-use Rattle.hp_proc.specs.Handed.{AreOwnFailures, calls_failed}
+use Rattle.hp_proc.specs.Doing.Done.{CaughtUp, ChunkMapped, Looked}
+use Rattle.hp_proc.specs.Handed.{AreOwnFailures, IsFailureOfItsRow, calls_failed}
 use Rattle.thm_run.specs.Seats.{Seat}
 use Rattle.thm_run.specs.Together.{IsFirst, GlobalState, Runs, Steps}
 use Rattle.thm_run.proofs.SeatFacts.LogAlong.{HasRecords, step_records}
@@ -77,18 +76,19 @@ module _ (count absent : ℕ) (pools : List PoolLine) (first now : GlobalState) 
           step_attached count mid at step
           (step_records count mid at step (armed_along count absent pools first is mid runs).growth) (all_attached mid runs)
 
-  -- the refusals of a participant's catchings up: each is of a row of the log, and their calls rise from 1
+  -- the mappings of a participant that failed: each is of a row of the log or of a chunk, and their calls rise from 1
   pub refusals : (who : ℕ) (seat : Seat) → slice_get now.seats who ≡ Some seat → AreOwnFailures now.segs.log seat.trace
   refusals who seat there =
       let so = attached_so who seat there in
       record {
-        rows = All-weaker (IsOfLog now.segs.log) (IsRefusedRow now.segs.log) (row_in now.segs.log) seat.trace so.done;
+        rows = All-weaker (IsOfLog now.segs.log) (IsFailureOfItsRow now.segs.log) (row_in now.segs.log) seat.trace so.done;
         some = All-weaker (IsRefusedCall seat.party.maps) (λ number. 0 < number) (λ number is. is.some) (calls_failed seat.trace) so.calls;
         rising = so.rising;
       }
     where
-      row_in : (log : List LogRecord) (done : Done) → IsOfLog log done → IsRefusedRow log done
+      row_in : (log : List LogRecord) (done : Done) → IsOfLog log done → IsFailureOfItsRow log done
       row_in log (CaughtUp to ended) is = is.1
+      row_in log (ChunkMapped chunk ended) is = is
       row_in log _ is = tt
 
   -- each such call is one at which the mapper may fail

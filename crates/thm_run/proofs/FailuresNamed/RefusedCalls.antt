@@ -81,6 +81,11 @@ pub data BringsCalls (old new : List MapAnswer) (may_fail : Option (List Failing
   one : (call : ℕ) → calls ≡ call ∷ [] → length old < call → call ≡ length new → may_fail_at may_fail call ≡ true
       → BringsCalls old new may_fail calls
 
+pub brings_longer : (old new : List MapAnswer) (may_fail : Option (List FailingCall)) (calls : List ℕ) → BringsCalls old new may_fail calls
+    → length old ≤ length new
+brings_longer old new may_fail calls (none is longer) = longer
+brings_longer old new may_fail calls (one call is more last may) = omega (arith, more, last)
+
 failed_call : (fresh : List Row) (old new : List MapAnswer) (row : Row) (call : ℕ) (got : MapAnswer)
     → HasFailed fresh old new row call got → length old < length new
 failed_call fresh old new row call got failed =
@@ -125,11 +130,7 @@ module _ (log : List LogRecord) (old new : MapsView) (ended : Caught) (caught_up
 
   -- the mapper made no fewer calls
   pub catching_longer : length old.answers ≤ length new.answers
-  catching_longer = by_calls catching_brings
-    where
-      by_calls : BringsCalls old.answers new.answers old.may_fail (call_refused ended) → length old.answers ≤ length new.answers
-      by_calls (none is longer) = longer
-      by_calls (one call is more last may) = omega (arith, more, last)
+  catching_longer = brings_longer old.answers new.answers old.may_fail (call_refused ended) catching_brings
 
 -- a row of a chunk that was refused is one of the chunk's
 pub chunk_row : (chunk : Chunk) (old new : List MapAnswer) (ended : Caught) → HasAnswered (rows_of_chunk chunk) old new ended

@@ -62,6 +62,7 @@ module _ (validators : List (Validator Bool)) (before ended : List EndedLine) (l
   quietly_judging (Quietly.reads_stats seat heap counted) was rest front = record { more = was.more; lines = was.lines; its = was.its }
   quietly_judging (Quietly.changes_names seat change) was rest front = record { more = was.more; lines = was.lines; its = was.its }
   quietly_judging (Quietly.sees_heap seat heap history) was rest front = record { more = was.more; lines = was.lines; its = was.its }
+  quietly_judging (Quietly.plans_range seat addr len page plan) was rest front = record { more = was.more; lines = was.lines; its = was.its }
   quietly_judging (Quietly.maps_chunk seat chunk maps ended is) was rest front = record { more = was.more; lines = was.lines; its = was.its }
   quietly_judging (Quietly.leaves_chunk seat chunk maps is) was rest front = record { more = was.more; lines = was.lines; its = was.its }
   quietly_judging (Quietly.ends_line seat deed given) was rest front =
@@ -97,7 +98,7 @@ module _ (validators : List (Validator Bool)) (before ended : List EndedLine) (l
     lines = was.lines;
     its = tried_validators (length segs.log) caught seat.standing ∙ was.its;
   }
-  handles_judging (Handles.detaches seat segs told secondary heard) was = record { more = was.more; lines = was.lines; its = was.its }
+  handles_judging (Handles.detaches seat segs told secondary none heard) was = record { more = was.more; lines = was.lines; its = was.its }
 
   module _ (seats : List Seat) (who : ℕ) (old new : Seat) (there : slice_get seats who ≡ Some old) where
     -- the seat of participant 0, where one came to something else

@@ -8,8 +8,7 @@ use Rattle.hp_log.specs.declared.log_record.LogRecord.{LogRecord}
 use Rattle.hp_script.specs.declared.workload.Workload.{Workload}
 use Rattle.hp_proc.specs.LinesDone.{Course, courses_of, trace_of}
 use Rattle.hp_serve.specs.Party.{Party}
-use Rattle.hp_proc.specs.Seen.{IsRefusedRow}
-use Rattle.hp_proc.specs.Handed.{AreOwnFailures}
+use Rattle.hp_proc.specs.Handed.{AreOwnFailures, IsFailureOfItsRow}
 use Rattle.thm_run.proofs.PathSteps.ByMail.{run_of}
 use Rattle.thm_run.specs.Seats.{Seat}
 use Rattle.thm_run.specs.SoFar.{SoFar}
@@ -26,7 +25,7 @@ use Rattle.thm_run.proofs.SeenAndShown.SeenLines.{seen_each}
 -- nothing was refused to who did nothing
 pub none_refused : (log : List LogRecord) → AreOwnFailures log []
 none_refused log = record {
-  rows = All-nil (IsRefusedRow log);
+  rows = All-nil (IsFailureOfItsRow log);
   some = All-nil (λ (number : ℕ). 0 < number);
   rising = λ k within. omega (arith, within);
 }

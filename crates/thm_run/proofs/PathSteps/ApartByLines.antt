@@ -194,7 +194,7 @@ module _ (who before base start : ℕ) where
       record { armed = old.armed; apart = old.apart; since = old.since; log = old.log; growth = old.growth }
   handles_apart {count} {by} (Handles.attaches seat segs caught after tried) sound growth old kept rising asks =
       attach_apart by caught segs old
-  handles_apart (Handles.detaches seat segs told secondary heard) sound growth old kept rising asks =
+  handles_apart (Handles.detaches seat segs told secondary none heard) sound growth old kept rising asks =
       record { armed = old.armed; apart = old.apart; since = old.since; log = old.log; growth = old.growth }
 
   -- in a step in which no other one takes a number, that stays

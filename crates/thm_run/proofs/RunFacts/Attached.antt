@@ -74,10 +74,12 @@ quietly_left log (Quietly.changes_names seat change) was =
     left_so log _ _ (record { joined = refl; attached = refl; records = refl; number = refl }) was
 quietly_left log (Quietly.sees_heap seat heap history) was =
     left_so log _ _ (record { joined = refl; attached = refl; records = refl; number = refl }) was
+quietly_left log (Quietly.plans_range seat addr len page plan) was =
+    left_so log _ _ (record { joined = refl; attached = refl; records = refl; number = refl }) was
 quietly_left log (Quietly.maps_chunk seat chunk maps ended is) was =
-    left_so log _ _ (record { joined = refl; attached = refl; records = refl; number = refl }) was
+    left_so log _ _ (record { joined = refl; attached = refl; records = refl; number = is.others.number }) was
 quietly_left log (Quietly.leaves_chunk seat chunk maps is) was =
-    left_so log _ _ (record { joined = refl; attached = refl; records = refl; number = refl }) was
+    left_so log _ _ (record { joined = refl; attached = refl; records = refl; number = is.others.number }) was
 quietly_left log (Quietly.ends_line seat deed given) was =
     left_so log _ _ (record { joined = refl; attached = refl; records = refl; number = refl }) was
 
@@ -176,5 +178,5 @@ handles_left (Handles.cuts seat segs heap addr run) sound enrolled out was =
 handles_left (Handles.attaches seat segs ended after tried) sound enrolled out was =
     tried_left segs.log seat after ended tried
     (out (tries_both seat.trace (Looked (length segs.log) ∷ CaughtUp (length segs.log) ended ∷ []))) _ was
-handles_left (Handles.detaches seat segs told secondary heard) sound enrolled out was =
+handles_left (Handles.detaches seat segs told secondary none heard) sound enrolled out was =
     record { joined = refl; since = λ joined. cc }

@@ -56,14 +56,11 @@ module _ (workload : Workload) (did : ℕ → List Done) (first last : Gathering
     pools =
         causes.pools_stay count workload.absent workload.pools.items start now came.is_first run.1 workload.deadline came.waits
         ∙ ap (λ (segs : SegsView). segs.pools) came.is_first.segs;
-    external =
-        causes.ranges_stay count workload.absent workload.pools.items start now came.is_first run.1 workload.deadline came.waits
-        ∙ ap (λ (segs : SegsView). segs.ranges) came.is_first.segs;
     asked_for = causes.asked_for count workload.absent workload.pools.items start now came.is_first run.1 workload.deadline came.waits;
     causes =
         causes.causes count workload.absent workload.pools.items start now came.is_first run.1 workload.deadline came.waits workload refl
         refl came.ended;
-    refusals = refused;
+    failed = refused;
     gone = λ heaps kept within.
         gone_back count workload.absent workload.pools.items start now did heaps came.is_first run.1
         (λ who seat there. came.did_so who seat there)

@@ -88,7 +88,7 @@ handles_records {count} {who} (Handles.settles seat segs since now late) armed =
 handles_records (Handles.cuts seat segs heap addr run) armed = same_records segs.log segs.log refl
 handles_records {count} {who} (Handles.attaches seat segs caught after tried) armed =
     same_records segs.log _ (attaching_leaves who caught segs).log
-handles_records (Handles.detaches seat segs told secondary heard) armed = same_records segs.log segs.log refl
+handles_records (Handles.detaches seat segs told secondary none heard) armed = same_records segs.log segs.log refl
 
 pub step_records : (count : ℕ) (old new : GlobalState) → Steps count old new → HasArmedGrowth old.segs → HasRecords old.segs.log new.segs.log
 step_records count _ _ (Steps.quietly at who old new there did) armed = same_records at.segs.log at.segs.log refl

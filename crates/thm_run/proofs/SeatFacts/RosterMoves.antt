@@ -17,7 +17,7 @@ use Rattle.hp_segs.specs.Steps.{after_claim}
 use Rattle.hp_serve.specs.Attaching.{after_attaching}
 use Rattle.hp_serve.specs.Coordinating.{stepping, with_room}
 use Rattle.hp_proc.specs.Doing.{Done}
-use Rattle.hp_proc.specs.Doing.Done.{Asked, Called, CaughtUp, ChunkMapped, GaveUp, HeapSeen, Looked, NamesChanged, NamesRead, StatsRead}
+use Rattle.hp_proc.specs.Doing.Done.{Asked, Called, CaughtUp, ChunkMapped, GaveUp, HeapSeen, Looked, NamesChanged, NamesRead, RangePlanned, StatsRead}
 use Rattle.thm_run.specs.Seats.{Handles, Mails, Quietly, Seat}
 use Rattle.thm_run.proofs.RunFacts.CallCases.{claim_holds, withdraw_holds}
 use Rattle.thm_run.proofs.Following.{catching_by}
@@ -67,6 +67,8 @@ quietly_moves who roster (Quietly.changes_names seat change) =
     stays refl refl (tries_same seat.trace (NamesChanged change ∷ []) refl)
 quietly_moves who roster (Quietly.sees_heap seat heap history) =
     stays refl refl (tries_same seat.trace (HeapSeen heap history ∷ []) refl)
+quietly_moves who roster (Quietly.plans_range seat addr len page plan) =
+    stays refl refl (tries_same seat.trace (RangePlanned addr len page plan ∷ []) refl)
 quietly_moves who roster (Quietly.maps_chunk seat chunk maps ended is) =
     stays refl refl (tries_same seat.trace (ChunkMapped chunk ended ∷ []) refl)
 quietly_moves who roster (Quietly.leaves_chunk seat chunk maps is) = stays refl refl refl
@@ -127,4 +129,4 @@ handles_moves (Handles.cuts seat segs heap addr run) sound = stays refl refl (tr
 handles_moves {count} {who} (Handles.attaches seat segs ended after tried) sound =
     attach_moves who seat _ segs ended (ap (λ party. party.joined) tried.after_is)
     (tries_both seat.trace (Looked (length segs.log) ∷ CaughtUp (length segs.log) ended ∷ []))
-handles_moves (Handles.detaches seat segs told secondary heard) sound = leaves refl refl refl
+handles_moves (Handles.detaches seat segs told secondary none heard) sound = leaves refl refl refl

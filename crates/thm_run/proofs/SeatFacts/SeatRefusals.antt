@@ -1,4 +1,4 @@
--- What a step shows of attaches that were refused: each is of a row of the log, by a call of its participant's mapper at which that may
+-- What a step shows of mappings that failed: each is of a row of the log or of a chunk, by a call of its participant's mapper at which that may
 -- fail.
 use Rattle.std.proofs.Common.{◌≡◌, ◌∙◌, ℕ, ◌<◌, ◌≤◌, true, List, [], ◌∷◌, ◌++◌, length, Option, refl, ap, sym, subst, arith, append-nil}
 use Rattle.std.specs.List.{All}
@@ -6,21 +6,24 @@ use Rattle.std.specs.List.Sorted.{IsStrictlyIncreasing}
 use Rattle.std.proofs.lemmas.List.Elements.{All-append, All-cons, All-nil, All-push, All-weaker}
 use Rattle.hp_base.specs.Mapping.{FailingCall, may_fail_at}
 use Rattle.hp_base.specs.declared.caught.Caught.{Caught}
+use Rattle.hp_base.specs.declared.chunk.Chunk.{Chunk}
 use Rattle.hp_base.specs.declared.caught.Caught.TheVariants as caught
 use Rattle.hp_base.specs.declared.map_answer.MapAnswer.{MapAnswer}
 use Rattle.hp_hall.specs.Mail.{MailStep}
 use Rattle.hp_log.specs.declared.log_record.LogRecord.{LogRecord}
+use Rattle.hp_maps.specs.Chunks.{rows_of_chunk}
 use Rattle.hp_maps.specs.MapsView.{MapsView}
 use Rattle.hp_segs.specs.SegsView.{SegsView}
 use Rattle.hp_serve.specs.Attaching.{Attaches, table_left}
 use Rattle.hp_proc.specs.Courses.{call_refused}
 use Rattle.hp_proc.specs.Doing.{Done}
-use Rattle.hp_proc.specs.Doing.Done.{Asked, Called, CaughtUp, ChunkMapped, GaveUp, HeapSeen, Looked, NamesChanged, NamesRead, StatsRead}
+use Rattle.hp_proc.specs.MappedChunks.{MapsChunk}
+use Rattle.hp_proc.specs.Doing.Done.{Asked, Called, CaughtUp, ChunkMapped, GaveUp, HeapSeen, Looked, NamesChanged, NamesRead, RangePlanned, StatsRead}
 use Rattle.hp_proc.specs.Handed.{calls_failed}
 use Rattle.hp_serve.specs.Party.{Party}
 use Rattle.hp_serve.specs.Serving.{CatchesUp}
 use Rattle.thm_run.specs.Seats.{Handles, Mails, Quietly, Seat}
-use Rattle.thm_run.proofs.FailuresNamed.RefusedCalls.{BringsCalls, IsOfLog, catching_brings, catching_longer, catching_row, none, one, refusals_both, rising_push}
+use Rattle.thm_run.proofs.FailuresNamed.RefusedCalls.{BringsCalls, IsOfLog, brings_calls, brings_longer, chunk_row, catching_brings, catching_longer, catching_row, none, one, refusals_both, rising_push}
 
 -- a call that was refused is one that the mapper made, at which it may fail
 pub record IsRefusedCall (maps : MapsView) (call : ℕ) : Type 0 where
@@ -116,6 +119,27 @@ did_one log old new done trace maps its nothing = record {
   calls = none nothing (omega (arith, ap (λ (maps : MapsView). length maps.answers) maps));
 }
 
+-- the pages of a chunk were mapped, or a mapping of them failed
+chunk_more : (log : List LogRecord) (seat new : Seat) (chunk : Chunk) (maps : MapsView) (ended : Caught)
+    → MapsChunk chunk seat.party.maps maps ended → new.trace ≡ seat.trace ++ ChunkMapped chunk ended ∷ [] → new.party.maps ≡ maps
+    → DoesMore log seat new
+chunk_more log seat new chunk maps ended is trace its =
+    let brings : BringsCalls seat.party.maps.answers new.party.maps.answers seat.party.maps.may_fail (call_refused ended) =
+    subst (λ (maps : MapsView). BringsCalls seat.party.maps.answers maps.answers seat.party.maps.may_fail (call_refused ended)) (sym its)
+    (brings_calls (rows_of_chunk chunk) seat.party.maps.answers maps.answers seat.party.maps.may_fail ended is.answered is.reason) in
+    record {
+      more = ChunkMapped chunk ended ∷ [];
+      trace = trace;
+      its = All-cons (IsOfLog log) (ChunkMapped chunk ended) [] (chunk_row chunk seat.party.maps.answers maps.answers ended is.answered)
+          (All-nil (IsOfLog log));
+      may_fail = ap (λ (maps : MapsView). maps.may_fail) its ∙ is.others.may_fail;
+      longer = brings_longer seat.party.maps.answers new.party.maps.answers seat.party.maps.may_fail (call_refused ended) brings;
+      calls =
+          subst
+          (λ (calls : List ℕ). BringsCalls seat.party.maps.answers new.party.maps.answers seat.party.maps.may_fail calls)
+          (sym (append-nil (call_refused ended))) brings;
+    }
+
 pub quietly_more : {old new : Seat} → (log : List LogRecord) → Quietly old new → DoesMore log old new
 quietly_more log (Quietly.hears seat answered) =
     did_none log seat _ refl refl refl
@@ -128,9 +152,9 @@ quietly_more log (Quietly.reads_names seat names) = did_one log seat _ (NamesRea
 quietly_more log (Quietly.reads_stats seat heap counted) = did_one log seat _ (StatsRead heap counted) refl refl tt refl
 quietly_more log (Quietly.changes_names seat change) = did_one log seat _ (NamesChanged change) refl refl tt refl
 quietly_more log (Quietly.sees_heap seat heap history) = did_one log seat _ (HeapSeen heap history) refl refl tt refl
-quietly_more log (Quietly.maps_chunk seat chunk maps ended is) = did_one log seat _ (ChunkMapped chunk ended) refl refl tt refl
-quietly_more log (Quietly.leaves_chunk seat chunk maps is) =
-    did_none log seat _ refl refl refl
+quietly_more log (Quietly.plans_range seat addr len page plan) = did_one log seat _ (RangePlanned addr len page plan) refl refl tt refl
+quietly_more log (Quietly.maps_chunk seat chunk maps ended is) = chunk_more log seat _ chunk maps ended is refl refl
+quietly_more log (Quietly.leaves_chunk seat chunk maps is) = did_none log seat _ refl is.others.may_fail is.answers
 quietly_more log (Quietly.ends_line seat deed given) =
     did_none log seat _ refl refl refl
 
@@ -207,5 +231,5 @@ handles_more (Handles.claims seat segs) = did_none segs.log seat seat refl refl 
 handles_more (Handles.settles seat segs since now late) = did_none segs.log seat seat refl refl refl
 handles_more (Handles.cuts seat segs heap addr run) = did_one segs.log seat _ _ refl refl tt refl
 handles_more (Handles.attaches seat segs ended after tried) = attaching_more segs.log seat _ ended after tried refl refl
-handles_more (Handles.detaches seat segs told secondary heard) =
+handles_more (Handles.detaches seat segs told secondary none heard) =
     did_none segs.log seat _ refl refl refl

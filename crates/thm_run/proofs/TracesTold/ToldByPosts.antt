@@ -116,7 +116,7 @@ module _ (count : ℕ) (steps : ℕ → List MailStep) where
   handles_told (Handles.cuts seat segs heap addr run) growth held posted told = told
   handles_told {who} {old} {new} {taken} {given} (Handles.attaches seat segs caught after tried) growth held posted told =
       same_told taken given (attaching_leaves who caught segs).asks told
-  handles_told (Handles.detaches seat segs listeners secondary heard) growth held posted told = told
+  handles_told (Handles.detaches seat segs listeners secondary none heard) growth held posted told = told
 
   handles_held : {who : ℕ} {old new : Seat} {taken given : SegsView} → Handles count who old new taken given → who ≡ 0 → HoldsTold old
       → ArePosted steps old → HoldsTold new
@@ -135,7 +135,7 @@ module _ (count : ℕ) (steps : ℕ → List MailStep) where
   handles_held (Handles.cuts seat segs heap addr run) primary held posted one is = held one is
   handles_held (Handles.attaches seat segs caught after tried) primary held posted one is =
       held one (sym (ap (λ (party : _). party.core) tried.after_is) ∙ is)
-  handles_held (Handles.detaches seat segs told secondary heard) primary held posted one is = held one is
+  handles_held (Handles.detaches seat segs told secondary none heard) primary held posted one is = held one is
 
 -- ALL TURNS
 

@@ -15,7 +15,7 @@ use Rattle.hp_serve.specs.Frames.{Says}
 use Rattle.hp_serve.specs.Serving.{gives_segments, takes_segments}
 use Rattle.hp_proc.specs.Courses.{numbered_in}
 use Rattle.hp_proc.specs.Doing.{Done}
-use Rattle.hp_proc.specs.Doing.Done.{Asked, Called, CaughtUp, ChunkMapped, GaveUp, HeapSeen, Looked, NamesChanged, NamesRead, StatsRead}
+use Rattle.hp_proc.specs.Doing.Done.{Asked, Called, CaughtUp, ChunkMapped, GaveUp, HeapSeen, Looked, NamesChanged, NamesRead, RangePlanned, StatsRead}
 use Rattle.hp_weave.specs.Deeds.{Deed, Turn, deeds_of}
 use Rattle.thm_run.proofs.TracesTold.Numbers.{numbered_both}
 use Rattle.thm_run.proofs.TracesTold.Posts.{says_one}
@@ -50,6 +50,8 @@ quiet_more (Quietly.changes_names seat change) =
     record { asked = omega arith; numbered = long seat.trace (NamesChanged change ∷ []) }
 quiet_more (Quietly.sees_heap seat heap history) =
     record { asked = omega arith; numbered = long seat.trace (HeapSeen heap history ∷ []) }
+quiet_more (Quietly.plans_range seat addr len page plan) =
+    record { asked = omega arith; numbered = long seat.trace (RangePlanned addr len page plan ∷ []) }
 quiet_more (Quietly.maps_chunk seat chunk maps ended is) =
     record { asked = omega arith; numbered = long seat.trace (ChunkMapped chunk ended ∷ []) }
 quiet_more (Quietly.leaves_chunk seat chunk maps is) = record { asked = omega arith; numbered = omega arith }
@@ -93,7 +95,7 @@ hold_more (Handles.attaches seat segs caught after tried) =
       asked = ap (λ (party : _). party.asked) tried.after_is ∙ omega arith;
       numbered = long seat.trace (Looked (length segs.log) ∷ CaughtUp (length segs.log) caught ∷ []);
     })
-hold_more (Handles.detaches seat segs told secondary heard) = HoldMore.none (record { asked = omega arith; numbered = omega arith })
+hold_more (Handles.detaches seat segs told secondary none heard) = HoldMore.none (record { asked = omega arith; numbered = omega arith })
 
 -- A NUMBER THAT IS TOLD
 

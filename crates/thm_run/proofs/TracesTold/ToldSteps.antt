@@ -81,6 +81,9 @@ told_quietly at who old new told there (Quietly.changes_names seat change) =
 told_quietly at who old new told there (Quietly.sees_heap seat heap history) =
     told_on at told who old new there (Done.HeapSeen heap history ∷ []) refl at.segs at.boxes refl
     (boxes_on at told who old new there (Done.HeapSeen heap history ∷ []) refl)
+told_quietly at who old new told there (Quietly.plans_range seat addr len page plan) =
+    told_on at told who old new there (Done.RangePlanned addr len page plan ∷ []) refl at.segs at.boxes refl
+    (boxes_on at told who old new there (Done.RangePlanned addr len page plan ∷ []) refl)
 told_quietly at who old new told there (Quietly.maps_chunk seat chunk maps ended is) =
     told_on at told who old new there (Done.ChunkMapped chunk ended ∷ []) refl at.segs at.boxes refl
     (boxes_on at told who old new there (Done.ChunkMapped chunk ended ∷ []) refl)
@@ -129,7 +132,7 @@ none_fetched (Handles.claims seat segs) = refl
 none_fetched (Handles.settles seat segs since now late) = refl
 none_fetched (Handles.cuts seat segs heap addr run) = refl
 none_fetched (Handles.attaches seat segs caught after does) = refl
-none_fetched (Handles.detaches seat segs told other heard) = refl
+none_fetched (Handles.detaches seat segs told other none heard) = refl
 
 pub told_step : (count : ℕ) (at new : GlobalState) (step : Steps count at new) → IsByMail step → AreTraced at → AreTold at → AreTold new
 told_step count at new (Steps.quietly before who old now there does) by was told = told_quietly at who old now told there does

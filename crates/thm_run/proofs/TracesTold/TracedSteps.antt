@@ -66,6 +66,9 @@ traced_quietly at who old new was there (Quietly.changes_names seat change) =
 traced_quietly at who old new was there (Quietly.sees_heap seat heap history) =
     traced_on at was who old new there (Done.HeapSeen heap history ∷ []) refl at.segs at.boxes refl
     (record { me = refl; core = refl; asked = refl; asking = refl }) refl refl
+traced_quietly at who old new was there (Quietly.plans_range seat addr len page plan) =
+    traced_on at was who old new there (Done.RangePlanned addr len page plan ∷ []) refl at.segs at.boxes refl
+    (record { me = refl; core = refl; asked = refl; asking = refl }) refl refl
 traced_quietly at who old new was there (Quietly.maps_chunk seat chunk maps ended is) =
     traced_on at was who old new there (Done.ChunkMapped chunk ended ∷ []) refl at.segs at.boxes refl
     (record { me = refl; core = refl; asked = refl; asking = refl }) refl refl
@@ -170,7 +173,7 @@ traced_handles count at who old new given was there fetched (Handles.attaches se
     let beside = attach_beside who ended at.segs in
     traced_on at was who old new there more refl given at.boxes refl (attached_same old after _ at.segs.log ended more does) beside.armed
     beside.asks
-traced_handles count at who old new given was there fetched (Handles.detaches seat segs told other heard) growth sound =
+traced_handles count at who old new given was there fetched (Handles.detaches seat segs told other none heard) growth sound =
     traced_on at was who old new there [] (still old) given at.boxes refl
     (record { me = refl; core = refl; asked = refl; asking = refl }) refl refl
 

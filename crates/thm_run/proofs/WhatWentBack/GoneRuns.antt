@@ -102,7 +102,7 @@ handles_gone seats count by _ _ _ _ (Handles.cuts seat segs heap addr run) there
     gone_retired who base past seats heap run segs was
 handles_gone seats count by _ _ _ _ (Handles.attaches seat segs caught after tried) there traced fetched who base past cut armed was =
     gone_left who base past seats segs _ was (attaching_leaves by caught segs)
-handles_gone seats count by _ _ _ _ (Handles.detaches seat segs told secondary heard) there traced fetched who base past cut armed was =
+handles_gone seats count by _ _ _ _ (Handles.detaches seat segs told secondary none heard) there traced fetched who base past cut armed was =
     gone_left who base past seats segs (after_leave by segs) was (record { asks = refl; armed = refl; log = refl; retiring = refl })
 
 -- EACH STEP, AND A RUN
