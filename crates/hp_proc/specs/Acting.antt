@@ -3,6 +3,7 @@ use Rattle.std.specs.Prelude.{◌≡◌, ℕ, ◌+◌, ◌<◌, Bool, false, Lis
 use Rattle.hp_base.specs.Telling.{Listener}
 use Rattle.hp_base.specs.declared.caught.Caught.{Caught}
 use Rattle.hp_base.specs.declared.chunk.Chunk.{Chunk}
+use Rattle.hp_base.specs.declared.limits.TheConstants.{MAX_HEAPS}
 use Rattle.hp_base.specs.declared.row.Run.{Run}
 use Rattle.hp_hall.specs.Mail.{MailStep, Gives, Notes, Takes}
 use Rattle.hp_hall.specs.declared.kept.Kept.TheVariants.{Heap, Names}
@@ -17,7 +18,7 @@ use Rattle.hp_heap.specs.declared.entry.HeapCall.{HeapCall}
 use Rattle.hp_heap.specs.declared.entry.HeapCall.TheVariants as call
 use Rattle.hp_log.specs.declared.log_record.LogRecord.{LogRecord}
 use Rattle.hp_maps.specs.Events.{IsToldByAddress}
-use Rattle.hp_maps.specs.MapsView.{MapsView}
+use Rattle.hp_maps.specs.MapsView.{MapsView, chunk_rows}
 use Rattle.hp_segs.specs.LaterSteps.{after_leave}
 use Rattle.hp_segs.specs.Ranges.{after_claim_range, after_release_range, range_plan}
 use Rattle.hp_segs.specs.SegsView.{SegsView}
@@ -32,6 +33,7 @@ use Rattle.hp_proc.specs.Doing.{Done}
 use Rattle.hp_proc.specs.Doing.Done.{Asked, Called, CaughtUp, ChunkMapped, GaveUp, HeapSeen, Looked, NamesChanged, NamesRead, StatsRead}
 use Rattle.hp_proc.specs.Handing.{counted_in, shared_of}
 use Rattle.hp_proc.specs.MappedChunks.{LeavesChunk, MapsChunk}
+use Rattle.hp_proc.specs.NamesOfLines.{ChangesNames}
 use Rattle.hp_proc.specs.OwnChunks.{own_chunk, with_own_chunk, without_own_chunk}
 use Rattle.hp_proc.specs.ParticipantView.{ParticipantView, after_call, noting_chunks, with_party, with_standing}
 use Rattle.hp_proc.specs.SharedNames.{NamesChange}
@@ -56,7 +58,7 @@ pub data Acts (count : ℕ) : Option ℕ → Option ℕ → List ℕ → Partici
       → IsTurned (denials_of doer.context.standing) count until doer.party after steps (Some moved)
       → Acts count None None [] doer (with_party after doer) [] steps
   -- it took a heap with its pen, or published the statistics of the one in its hand and gave that back
-  takes_heap : (doer : ParticipantView) (heap : HeapView) (pen : PenView)
+  takes_heap : (doer : ParticipantView) (heap : HeapView) (pen : PenView) → heap.plain.index < MAX_HEAPS
       → Acts count None (Some heap.plain.index) (heap.plain.index ∷ []) doer doer [] (Takes heap.plain.index (Heap heap pen) ∷ [])
   gives_heap : (doer : ParticipantView) (heap : HeapView) (pen : PenView)
       → Acts count (Some heap.plain.index) None [] doer doer []
@@ -84,7 +86,7 @@ pub data Acts (count : ℕ) : Option ℕ → Option ℕ → List ℕ → Partici
   -- it detached, which no primary does, once it had left every chunk, and noted that: its watchers were told of all rows that went, and it told that its table is empty
   -- before it gave the segment value back
   detaches : (doer : ParticipantView) (taken : SegsView) (told : List Listener) → 0 < doer.party.me → doer.context.standing.chunks ≡ []
-      → IsToldByAddress doer.party.maps.rows doer.party.listeners told
+      → chunk_rows doer.party.maps.rows ≡ [] → IsToldByAddress doer.party.maps.rows doer.party.listeners told
       → Acts count None None [] doer
       (with_standing (record doer.context.standing { attached = false }) (with_party (after_detaching told doer.party) doer)) []
       (takes_segments taken ∷ Notes Emptied ∷ gives_segments (after_leave doer.party.me taken) ∷ [])
@@ -95,14 +97,16 @@ pub data Acts (count : ℕ) : Option ℕ → Option ℕ → List ℕ → Partici
   reads_names : (doer : ParticipantView) (names : NamesView)
       → Acts count None None [] doer doer (NamesRead (shared_of names) ∷ [])
       (Takes NAMES_SLOT (Names names) ∷ Gives NAMES_SLOT (Names names) ∷ [])
-  -- it took the names, which it was handed, or changed them, or gave them back as they are by then
-  takes_names : (doer : ParticipantView) (names : NamesView)
-      → Acts count None None [] doer doer (NamesRead (shared_of names) ∷ []) (Takes NAMES_SLOT (Names names) ∷ [])
+  -- it changed them, as it has them in hand
   changes_names : (hand : Option ℕ) (doer : ParticipantView) (change : NamesChange)
       → Acts count hand hand [] doer doer (NamesChanged change ∷ []) []
-  gives_names : (doer : ParticipantView) (names : NamesView) → Acts count None None [] doer doer [] (Gives NAMES_SLOT (Names names) ∷ [])
+  -- it had them in hand while it did this: it was handed what it took, and gave back what the changes that it made meanwhile leave of that
+  holds_names : (held : List ℕ) (doer after : ParticipantView) (taken given : NamesView) (trace : List Done) (steps : List MailStep)
+      → Acts count None None held doer after trace steps → ChangesNames taken given trace
+      → Acts count None None held doer after (NamesRead (shared_of taken) ∷ trace)
+      (Takes NAMES_SLOT (Names taken) ∷ (steps ++ Gives NAMES_SLOT (Names given) ∷ []))
   -- it took an external heap with its pen, and was handed its state
-  sees_heap : (doer : ParticipantView) (heap : HeapView) (pen : PenView)
+  sees_heap : (doer : ParticipantView) (heap : HeapView) (pen : PenView) → heap.plain.index < MAX_HEAPS
       → Acts count None (Some heap.plain.index) (heap.plain.index ∷ []) doer doer (HeapSeen heap.plain.index heap.history ∷ [])
       (Takes heap.plain.index (Heap heap pen) ∷ [])
   -- it looked at the segment value with a heap in its hand: for the memory of a chunk that it is to map, or since memory was refused

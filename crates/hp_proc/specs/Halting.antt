@@ -1,7 +1,9 @@
 -- What a participant does of a line that ends without an answer, step by step: the rule "Lines" of docs/PARTICIPANTS.md.
 use Rattle.std.specs.Prelude.{◌≡◌, ◌≢◌, ℕ, ◌+◌, true, List, [], ◌∷◌, ◌++◌, length, Option, Some, None}
 use Rattle.hp_base.specs.declared.row.Run.{Run}
-use Rattle.hp_hall.specs.Mail.{MailStep}
+use Rattle.hp_hall.specs.Mail.{MailStep, Gives, Takes}
+use Rattle.hp_hall.specs.declared.kept.Kept.TheVariants.{Names}
+use Rattle.hp_hall.specs.declared.slot.TheConstants.{NAMES_SLOT}
 use Rattle.hp_script.specs.declared.line.Line.{Line}
 use Rattle.hp_segs.specs.SegsView.{SegsView}
 use Rattle.hp_proc.specs.Denying.{denials_of}
@@ -14,13 +16,16 @@ use Rattle.hp_proc.specs.Acting.{Acts}
 use Rattle.hp_proc.specs.Contexts.{AreFactsOf, after_calls}
 use Rattle.hp_proc.specs.Courses.{calls_in}
 use Rattle.hp_proc.specs.Doing.{Doing, Done, Leads}
-use Rattle.hp_proc.specs.Doing.Done.{Asked}
+use Rattle.hp_proc.specs.Doing.Done.{Asked, NamesRead}
+use Rattle.hp_proc.specs.Handing.{shared_of}
 use Rattle.hp_proc.specs.Histories.{entries_for}
 use Rattle.hp_proc.specs.LineTrees.{doing_of}
 use Rattle.hp_proc.specs.Lines.{Facts}
 use Rattle.hp_proc.specs.LockOrder.{IsInLockOrder}
+use Rattle.hp_proc.specs.NamesOfLines.{ChangesNames}
 use Rattle.hp_proc.specs.ParticipantView.{ParticipantView, with_party}
 use Rattle.hp_proc.specs.Progress.{AreOnce, Moment, doer_at}
+use Rattle.hp_zone.specs.declared.names.Names.{Names as NamesView}
 
 -- what a participant did that stopped over it, once at most, with the steps that it made in the hall: with the heap in its hand before and
 -- after, where it had one, and the heaps that it took meanwhile, in their order
@@ -46,6 +51,11 @@ pub data ActsOn (count : ℕ) : Option ℕ → Option ℕ → List ℕ → Parti
   notice_stops : (doer : ParticipantView) (after : Party) (heap : ℕ) (run : Run) (steps : List MailStep)
       → StopsNotifying (denials_of doer.context.standing) count doer.party after heap run steps
       → ActsOn count None None [] doer (with_party after doer) [] steps
+  -- it stopped over that while it had the names in hand, which it gave back as its changes leave them
+  holds_names : (held : List ℕ) (doer after : ParticipantView) (taken given : NamesView) (trace : List Done) (steps : List MailStep)
+      → ActsOn count None None held doer after trace steps → ChangesNames taken given trace
+      → ActsOn count None None held doer after (NamesRead (shared_of taken) ∷ trace)
+      (Takes NAMES_SLOT (Names taken) ∷ (steps ++ Gives NAMES_SLOT (Names given) ∷ []))
   -- other things were done before
   and_then : (hand between last : Option ℕ) (held more : List ℕ) (doer mid after : ParticipantView) (first rest : List Done)
       (before behind : List MailStep) → Acts count hand between held doer mid first before

@@ -34,7 +34,7 @@ use Rattle.hp_proc.specs.OwnChunks.{AreMarkedAs}
 use Rattle.hp_proc.specs.PlaceLists.{place_named}
 use Rattle.hp_proc.specs.declared.searched_heap.SearchedHeap.{SearchedHeap}
 use Rattle.hp_proc.specs.ParticipantView.{ParticipantView, with_calls}
-use Rattle.hp_proc.specs.Progress.{AreSettled, Does, DoesLine, DoesOnce, IsInHand, IsTakenWith, MayComeAndGo, MayDo, Moment, in_hand, moment_of}
+use Rattle.hp_proc.specs.Progress.{AreSettled, Does, DoesApart, DoesLine, DoesOnce, IsInHand, IsTakenWith, MayComeAndGo, MayDo, Moment, in_hand, moment_of}
 use Rattle.hp_proc.specs.SharedNames.{SharedNames, directory_in, heaps_in}
 use Rattle.hp_serve.specs.InHall.{CanServe, IsTiedIn, RemainsIn, marked_in}
 use Rattle.hp_serve.specs.Party.{IsSameParty, Party}
@@ -60,6 +60,9 @@ DoesHere held me old new from to doing rest = Does held from.count (did_in me fr
 
 abbrev pub DoesOnceHere : ℕ → ParticipantView → ParticipantView → HallState → HallState → Doing → Doing → Type 0
 DoesOnceHere me old new from to doing rest = DoesOnce from.count (did_in me from to) doing rest (moment me old from) (moment me new to)
+
+abbrev pub DoesApartHere : ℕ → ParticipantView → ParticipantView → HallState → HallState → Doing → Doing → Type 0
+DoesApartHere me old new from to doing rest = DoesApart from.count (did_in me from to) doing rest (moment me old from) (moment me new to)
 
 abbrev pub DoesHeld : ℕ → ParticipantView → ParticipantView → HeapView → HeapView → HallState → HallState → Doing → Doing → Type 0
 DoesHeld me old new before behind from to doing rest =

@@ -54,6 +54,9 @@ abbrev pub GivesNamesFirstFrom : List ℕ → List MailStep → Type 0
 GivesNamesFirstFrom hand [] = ⊤
 GivesNamesFirstFrom hand (step ∷ steps) = TakesNoHeapWith step hand × GivesNamesFirstFrom (hand_after step hand) steps
 
+abbrev pub GivesNamesFirst : List MailStep → Type 0
+GivesNamesFirst steps = GivesNamesFirstFrom [] steps
+
 -- the lines of memzones and of external heaps have the names in hand while they have a heap in hand; every other line gives them back before
 -- it takes a heap
 abbrev pub HoldsNamesAsMay : Act → List MailStep → Type 0
@@ -65,4 +68,4 @@ HoldsNamesAsMay (act.Add heap addr len page) steps = ⊤
 HoldsNamesAsMay (act.Remove heap addr len) steps = ⊤
 HoldsNamesAsMay (act.Map heap addr len) steps = ⊤
 HoldsNamesAsMay (act.Unmap heap addr len) steps = ⊤
-HoldsNamesAsMay _ steps = GivesNamesFirstFrom [] steps
+HoldsNamesAsMay _ steps = GivesNamesFirst steps

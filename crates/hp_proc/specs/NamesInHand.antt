@@ -17,7 +17,7 @@ use Rattle.hp_proc.specs.ExternalAnswers.{IsHeapMeant}
 use Rattle.hp_proc.specs.Histories.{entries_for}
 use Rattle.hp_proc.specs.Handing.{shared_of}
 use Rattle.hp_proc.specs.LineInHall.{DoesHeld, DoesHere, DoesOnceHere, HaltsHeld, HaltsHere, HoldsIn, IsReadyBut}
-use Rattle.hp_proc.specs.NamesOfLines.{names_after, names_read}
+use Rattle.hp_proc.specs.NamesOfLines.{ChangesNames}
 use Rattle.hp_proc.specs.ParticipantView.{ParticipantView, with_calls}
 use Rattle.hp_proc.specs.Progress.{AreOnce}
 use Rattle.hp_script.specs.declared.line.Act.{Act}
@@ -87,12 +87,7 @@ pub record GivesNamesBack (me : ℕ) (doer : ParticipantView) (names : NamesView
   pub slots : SlotsStayBut NAMES_SLOT old new
   pub others : OthersStay me old new
 
--- What it did with the names in hand, from one value of them to another one, beside what it did else: their changes are those of its trace, in
--- order.
-pub record ChangesNames (before after : NamesView) (trace : List Done) : Type 0 where
-  pub changed : shared_of after ≡ names_after (shared_of before) trace
-  pub unread : names_read trace ≡ []
-
+-- what it did with the names in hand, beside what it did else
 pub record DoesNamed (held : List ℕ) (me : ℕ) (old new : ParticipantView) (before after : NamesView) (from to : HallState)
     (doing rest : Doing) : Type 0 where
   pub does : DoesHere held me old new from to doing rest

@@ -1,10 +1,10 @@
 -- What a line has to do with the names: it takes them once at most, and gives them back as its changes leave them.
-use Rattle.std.specs.Prelude.{◌≡◌, List, [], ◌∷◌, filter_map, fold, Option, Some, None}
+use Rattle.std.specs.Prelude.{◌≡◌, List, [], ◌∷◌, filter_map, fold, Option, Some, None, ⊤, ⊥}
 use Rattle.hp_hall.specs.Mail.{MailStep, Gives, Takes}
 use Rattle.hp_hall.specs.declared.kept.Kept.TheVariants.{Names}
 use Rattle.hp_hall.specs.declared.slot.TheConstants.{NAMES_SLOT}
 use Rattle.hp_proc.specs.Doing.{Done}
-use Rattle.hp_proc.specs.Doing.Done.{NamesRead}
+use Rattle.hp_proc.specs.Doing.Done.{GaveUp, NamesRead}
 use Rattle.hp_proc.specs.Handing.{shared_of}
 use Rattle.hp_proc.specs.NamesLog.{change_made}
 use Rattle.hp_proc.specs.SharedNames.{SharedNames, names_with}
@@ -35,3 +35,19 @@ pub data NamesOfLine (trace : List Done) (steps : List MailStep) : Type 0 where
   none : steps_of_names steps ≡ [] → names_read trace ≡ [] → filter_map change_made trace ≡ [] → NamesOfLine trace steps
   once : (taken given : NamesView) → steps_of_names steps ≡ Takes NAMES_SLOT (Names taken) ∷ Gives NAMES_SLOT (Names given) ∷ []
       → names_read trace ≡ shared_of taken ∷ [] → shared_of given ≡ names_after (shared_of taken) trace → NamesOfLine trace steps
+
+-- a trace tells the coordinator of no run that was given up
+abbrev pub IsUntold : Done → Type 0
+IsUntold (GaveUp heap run) = ⊥
+IsUntold _ = ⊤
+
+abbrev pub AreUntold : List Done → Type 0
+AreUntold [] = ⊤
+AreUntold (done ∷ trace) = IsUntold done × AreUntold trace
+
+-- What it did with the names in hand, from one value of them to another one, beside what it did else: their changes are those of its trace, in
+-- order; it read them no more, and told the coordinator of no run.
+pub record ChangesNames (before after : NamesView) (trace : List Done) : Type 0 where
+  pub changed : shared_of after ≡ names_after (shared_of before) trace
+  pub unread : names_read trace ≡ []
+  pub untold : AreUntold trace

@@ -1,5 +1,5 @@
 -- The chunks that a participant has attached, as it notes them: by heap and by address.
-use Rattle.std.specs.Prelude.{◌≡◌, ℕ, ◌<◌, Bool, not, ◌&&◌, ◌||◌, ◌==◌, nat_lt, List, [], ◌∷◌, ◌++◌, filter, map, Option, Some, None, Contains}
+use Rattle.std.specs.Prelude.{◌≡◌, ℕ, ◌<◌, Bool, not, ◌&&◌, ◌||◌, ◌==◌, nat_lt, List, [], ◌∷◌, ◌++◌, filter, map, Option, Some, None, Contains, true}
 use Rattle.std.specs.List.{All}
 use Rattle.std.specs.List.Sorted.{IsSortedBy}
 use Rattle.hp_base.specs.declared.chunk.Chunk.{Chunk}

@@ -37,7 +37,7 @@ use Rattle.hp_proc.specs.Doing.{Doing, Done, Leads}
 use Rattle.hp_proc.specs.Heaps.{sockets_of}
 use Rattle.hp_proc.specs.LineTrees.{doing_of}
 use Rattle.hp_proc.specs.Lines.{Facts}
-use Rattle.hp_proc.specs.LockOrder.{HoldsNamesAsMay, IsInLockOrder, TellsEmptyHanded}
+use Rattle.hp_proc.specs.LockOrder.{GivesNamesFirst, HoldsNamesAsMay, IsInLockOrder, TellsEmptyHanded}
 use Rattle.hp_proc.specs.NamesOfLines.{NamesOfLine}
 use Rattle.hp_proc.specs.Histories.{entries_for}
 use Rattle.hp_serve.specs.Party.{IsSameParty, Party}
@@ -113,6 +113,12 @@ pub record DoesOnce (count : ℕ) (did : List MailStep → Type 0) (doing rest :
   pub held : List ℕ
   pub once : AreOnce held
   pub does : Does held count did doing rest old new
+
+-- and it read the names once at most, and had nothing else in hand meanwhile
+pub record DoesApart (count : ℕ) (did : List MailStep → Type 0) (doing rest : Doing) (old new : Moment) : Type 0 where
+  pub does : DoesOnce count did doing rest old new
+  pub names : NamesOfLine does.does.trace does.does.steps
+  pub apart : GivesNamesFirst does.does.steps
 
 -- what it did of a line came to that answer, and it held no heap twice; where the answer is an address, its last call was one of that heap
 pub record Brings (heap count : ℕ) (did : List MailStep → Type 0) (doing : Doing) (answer : Answer) (old new : Moment) : Type 0 where

@@ -15,7 +15,7 @@ ghost use Rattle.hp_proc.specs.SharedNames.{SharedNames};
 ghost use Rattle.hp_proc.specs.Progress.{AreOnce};
 ghost use Rattle.hp_proc.specs.declared.searched_heap.SearchedHeap.{SearchedHeap};
 ghost use Rattle.hp_hall.specs.HallState.{IsBusy, OthersStay};
-ghost use Rattle.hp_proc.specs.LineInHall.{DoesHeld, DoesHere, DoesOnceHere, FindsPlaces, HaltsHere, HasCalled, HasRoom, HoldsIn, IsReadyAgain, IsReadyIn, KeepsHeld};
+ghost use Rattle.hp_proc.specs.LineInHall.{DoesApartHere, DoesHeld, DoesHere, DoesOnceHere, FindsPlaces, HaltsHere, HasCalled, HasRoom, HoldsIn, IsReadyAgain, IsReadyIn, KeepsHeld};
 
 use super::Participant;
 use crate::element_act::{ElementAct, Left};
@@ -207,7 +207,7 @@ impl<'p, M: Mapper, F: Decide + Copy + Drop> Participant<'p, M, F> {
         requires size { IsSizedWell (act_for false size) }
         requires ready { IsReadyIn self.old.party.me self.old (H.state hall.old) }
         ensures does { IfOk result (λ given. (facts : Facts) → AreFactsOf self.old.party.socket self.old.context line.now facts
-            → DoesOnceHere self.old.party.me self.old self.new (H.state hall.old)
+            → DoesApartHere self.old.party.me self.old self.new (H.state hall.old)
             (H.state hall.new) (on_made self.old.party.me facts
             (λ tag. looking tag (acting (act_for tag.zone size))) facts.maker) (Doing.Ended given)) }
         ensures halts { OnErr result ((facts : Facts) → AreFactsOf self.old.party.socket self.old.context line.now facts
