@@ -12,6 +12,6 @@ mod Weaves
 pub mod WorkSteps
 mod Ends
 mod Seating
-mod ServesUntold
+pub mod ServesUntold
 pub mod WaitsUntold
 mod Handing
