@@ -10,4 +10,4 @@ pub mod MovesHeld
 pub mod MovesWithin
 pub mod NamesAtBoard
 pub mod NamesShown
-pub mod NamesStill
+pub mod NamesHeld
