@@ -3,7 +3,7 @@ use Rattle.std.proofs.Common.{◌≡◌, ◌∙◌, ℕ, ◌<◌, ◌≤◌, Boo
 use Rattle.hp_base.specs.declared.row.Row.{Row}
 use Rattle.hp_hall.proofs.StandingFacts.StandingLists.{found_in}
 use Rattle.hp_maps.specs.Catching.{Lags}
-use Rattle.hp_maps.specs.MapsView.{chunk_rows, table_in}
+use Rattle.hp_maps.specs.MapsView.{table_in}
 use Rattle.hp_maps.specs.declared.table.Table.{Table}
 use Rattle.hp_script.specs.declared.workload.Workload.{Workload}
 use Rattle.hp_segs.specs.SegsView.{SegsView, granted_by, is_member, is_opened}
@@ -52,7 +52,6 @@ module _ (workload : Workload) (who : ℕ) (segs : SegsView) (sound : IsSound se
               if_there (λ (generation : ℕ). generation ≤ table.number) (granted_by entry.outcome) (λ generation grant.
               omega (arith, number_is, its.taken_in joined entry generation has grant)));
           agreed = λ place segment within settled. omega (arith, number_is, row_taken_in place segment within settled);
-          no_other = ap chunk_rows its.leaves.rows ∙ its_own.chunks;
         }
 
   -- who is out has no table
