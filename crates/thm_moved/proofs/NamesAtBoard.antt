@@ -47,12 +47,13 @@ chain_shared first (hold ∷ holds) last chain =
 
 own_shared : (who : ℕ) (holds : List (Hold NamesView)) → holds_of who (map shared_hold holds) ≡ map shared_hold (holds_of who holds)
 own_shared who [] = refl
-own_shared who (hold ∷ holds) = by_owner (hold.who == who)
+own_shared who (hold ∷ holds) = by_owner (hold.who == who) (own_shared who holds)
   where
-    by_owner : (its : Bool) → cond its (shared_hold hold ∷ holds_of who (map shared_hold holds)) (holds_of who (map shared_hold holds))
+    by_owner : (its : Bool) → holds_of who (map shared_hold holds) ≡ map shared_hold (holds_of who holds)
+        → cond its (shared_hold hold ∷ holds_of who (map shared_hold holds)) (holds_of who (map shared_hold holds))
         ≡ map shared_hold (cond its (hold ∷ holds_of who holds) (holds_of who holds))
-    by_owner true = ap (λ (rest : List (Hold SharedNames)). shared_hold hold ∷ rest) (own_shared who holds)
-    by_owner false = own_shared who holds
+    by_owner true rest = ap (λ (rest : List (Hold SharedNames)). shared_hold hold ∷ rest) rest
+    by_owner false rest = rest
 
 -- AT A BOARD
 

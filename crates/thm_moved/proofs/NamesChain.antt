@@ -80,17 +80,15 @@ hold_from lower low (hold ∷ holds) high first on = (later_on lower low hold.ta
 pub own_onward : (first : SharedNames) (holds : List (Hold SharedNames)) (last : SharedNames) → Chain first holds last
     → AllByRecursion GivesLater holds → (who : ℕ) → HoldOnward first (holds_of who holds) last
 own_onward first [] last chain later who = subst (AreLater first) (sym chain) (later_same first)
-own_onward first (hold ∷ holds) last chain later who = by_owner (hold.who == who)
+own_onward first (hold ∷ holds) last chain later who = by_owner (hold.who == who) (own_onward hold.given holds last chain.1 later.1 who)
   where
-    rest : HoldOnward hold.given (holds_of who holds) last
-    rest = own_onward hold.given holds last chain.1 later.1 who
-
     before : AreLater first hold.taken
     before = subst (AreLater first) (sym chain.0) (later_same first)
 
-    by_owner : (its : Bool) → HoldOnward first (cond its (hold ∷ holds_of who holds) (holds_of who holds)) last
-    by_owner true = (before, rest)
-    by_owner false = hold_from first hold.given (holds_of who holds) last (later_on first hold.taken hold.given before later.0) rest
+    by_owner : (its : Bool) → HoldOnward hold.given (holds_of who holds) last
+        → HoldOnward first (cond its (hold ∷ holds_of who holds) (holds_of who holds)) last
+    by_owner true rest = (before, rest)
+    by_owner false rest = hold_from first hold.given (holds_of who holds) last (later_on first hold.taken hold.given before later.0) rest
 
 -- WHAT A TRACE SHOWS
 

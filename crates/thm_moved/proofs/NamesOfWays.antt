@@ -127,6 +127,9 @@ module _ (who : ℕ) where
     pub first : AllByRecursion (λ course. ReadsFirst course.trace) courses
 
   -- of one line
+  abbrev one_hold : Hold SharedNames → List (Hold SharedNames)
+  one_hold hold = hold ∷ []
+
   one_course : (course : Course) → held_in who (course ∷ []) ≡ held_for who course.trace
   one_course course = append-nil (held_for who course.trace)
 
@@ -139,7 +142,7 @@ module _ (who : ℕ) where
   }
   line_holds course steps (NamesOfLine.once taken given rest both trace unread leaves) = record {
     are = ap (map shared_hold) (names_only None steps ∙ ap (λ (steps : List MailStep). names_by who None (moves_in steps)) both)
-        ∙ (ap (λ (left : SharedNames). ◌∷◌ {A = Hold SharedNames} (record { who = who; taken = shared_of taken; given = left }) []) leaves
+        ∙ (ap (λ (left : SharedNames). one_hold (record { who = who; taken = shared_of taken; given = left })) leaves
         ∙ sym (one_course course ∙ ap (held_for who) trace));
     left = left_only None steps ∙ ap (left_in None) both;
     first = (subst ReadsFirst (sym trace) unread, tt);

@@ -1,7 +1,8 @@
 -- What participants on threads did, each told by its own way, and what is left once all came home; and that this is an end of their workload.
 -- The rule "Together" of docs/RUNS.md.
-use Rattle.std.specs.Prelude.{◌≡◌, ℕ, ◌<◌, ◌≤◌, ◌==◌, true, List, [], Contains, filter, length, map, take, None, Some, slice_get}
+use Rattle.std.specs.Prelude.{◌≡◌, ℕ, ◌<◌, ◌≤◌, ◌==◌, true, false, List, [], Contains, filter, length, map, take, None, Some, slice_get}
 use Rattle.std.specs.List.{All}
+use Rattle.hp_base.specs.declared.chunk.Chunk.{Chunk}
 use Rattle.hp_hall.specs.Mail.{MailStep}
 use Rattle.hp_hall.specs.Own.{Own}
 use Rattle.hp_heap.specs.History.{HeapView, IsSound}
@@ -70,12 +71,15 @@ pub record CameByHolds (workload : Workload) (steps : ℕ → List MailStep) (ho
   pub led : All IsLed holds
   pub alone : (who : ℕ) → who < workload.participants → NoneElseGrowsAlong who None (steps who)
 
--- A participant leaves its table: that is the one of its number, as far as it has unmapped; it is in the roster exactly where its lines leave it
--- attached, and there it has taken in each record that was granted.
+-- A participant leaves its table: that is the one of its number, as far as it has unmapped, with the rows of the chunks that it has attached; it is
+-- in the roster exactly where its lines leave it attached, and there it has taken in each record that was granted; where it is out, it has
+-- attached no chunk.
 pub record LeavesItsTable (workload : Workload) (who : ℕ) (segs : SegsView) (last : Seat) (courses : List Course) (table : Table) : Type 0
   where
     pub own : Own
-    pub kept : HasTable segs.log (part_of last.party.joined own) last.party.maps
+    pub marked : ℕ → List Chunk
+    pub kept : HasTable segs.log (part_of last.party.joined own) marked last.party.maps
+    pub away : last.party.joined ≡ false → (heap : ℕ) → marked heap ≡ []
     pub leaves : LeavesTable last.party table
     pub member : is_member segs.roster who ≡ last.party.joined
     pub attached : last.party.joined ≡ (standing_after (opening_standing workload who) courses).attached
