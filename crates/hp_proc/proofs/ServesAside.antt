@@ -109,25 +109,21 @@ loads_aside count acks (suc n) =
 handed : {denies : Denials} → (event : CoreEvent) (core next : Core) (taken : SegsView) (more : List MailStep) (answer : Option Out)
     → IsHanded denies event core next taken more answer → AreAside true false more
 handed event core next taken more answer (IsHanded.handed denied may did next_is is) =
-    subst (AreAside true false) (sym did) (refl, (refl, (tt, refl)))
+    subst (AreAside true false) (sym did) (refl, refl, tt, refl)
 handed event core next taken more answer (IsHanded.no_room did next_is is) =
-    subst (AreAside true false) (sym did) (refl, (refl, (tt, refl)))
+    subst (AreAside true false) (sym did) (refl, refl, tt, refl)
 
 mapped : (party after : Party) (steps : List MailStep) (answer : Option Out) → IsMapped party after steps answer → IsAside steps
 mapped party after steps answer (IsMapped.maps core next taken caught table own now more core_is did caught_up is_handed after_is) =
     aside_as steps _ did (
       refl,
-      (
-        refl,
-        (
-          tt,
-          aside_both true true false (tells_after_catching caught (length taken.log)) _ (tells_aside true caught (length taken.log))
-              (handed _ core next taken more answer is_handed),
-        ),
-      ),
+      refl,
+      tt,
+      aside_both true true false (tells_after_catching caught (length taken.log)) _ (tells_aside true caught (length taken.log))
+          (handed _ core next taken more answer is_handed),
     )
 mapped party after steps answer (IsMapped.worn taken is_worn did after_is none) =
-    aside_as steps _ did (refl, (refl, (tt, (refl, (refl, (tt, refl))))))
+    aside_as steps _ did (refl, refl, tt, (refl, refl, tt, refl))
 
 settled : (count : ℕ) (party after : Party) (answer : Out) (steps : List MailStep) (goes : Bool) → IsSettled count party after answer steps goes
     → IsAside steps
@@ -143,7 +139,7 @@ carried count (mid ∷ path) party after answer steps goes is =
 
 begun : {denies : Denials} → (event : CoreEvent) (core next : Core) (taken : SegsView) (steps more : List MailStep) (answer : Option Out)
     → steps ≡ Takes MAX_HEAPS (Segments taken) ∷ more → IsHanded denies event core next taken more answer → IsAside steps
-begun event core next taken steps more answer begins is = aside_as steps _ begins (refl, (refl, (tt, handed event core next taken more answer is)))
+begun event core next taken steps more answer begins is = aside_as steps _ begins (refl, refl, tt, handed event core next taken more answer is)
 
 handled : {denies : Denials} → (count : ℕ) (event : CoreEvent) (party after : Party) (steps : List MailStep) (goes : Bool)
     → IsHandled denies count event party after steps goes → IsAside steps
@@ -193,25 +189,16 @@ followed : (party after : Party) (taken : SegsView) (more : List MailStep) (goes
 followed party after taken more goes (IsFollowed.obeys member obeys is) =
     subst (AreAside true false) (sym obeys.done)
     (aside_both true true false (tells_after_catching obeys.caught (length taken.log)) _ (tells_aside true obeys.caught (length taken.log))
-    (
-      refl,
-      (
-        refl,
-        (
-          tt,
-          subst (λ (step : MailStep). IsAside (step ∷ [])) (sym obeys.replied.posts) ((_, obeys.replied.says, tt), refl),
-        ),
-      ),
-    ))
+    (refl, refl, tt, subst (λ (step : MailStep). IsAside (step ∷ [])) (sym obeys.replied.posts) ((_, obeys.replied.says, tt), refl)))
 followed party after taken more goes (IsFollowed.is_out out did after_is is) =
-    subst (AreAside true false) (sym did) (refl, (refl, (tt, refl)))
+    subst (AreAside true false) (sym did) (refl, refl, tt, refl)
 followed party after taken more goes (IsFollowed.is_worn member worn did after_is is) =
-    subst (AreAside true false) (sym did) (refl, (refl, (tt, refl)))
+    subst (AreAside true false) (sym did) (refl, refl, tt, refl)
 
 told : (party after : Party) (body : Body) (steps : List MailStep) (goes : Bool) → IsTold party after body steps goes → IsAside steps
 told party after body steps goes (IsTold.hears reply did after_is is) = aside_as steps _ did refl
 told party after body steps goes (IsTold.follows taken more sync did follows) =
-    aside_as steps _ did (refl, (refl, (tt, followed party after taken more goes follows)))
+    aside_as steps _ did (refl, refl, tt, followed party after taken more goes follows)
 
 heeded : (party after : Party) (frame : Frame) (steps : List MailStep) (goes : Bool) → IsDispatched party after frame steps goes → IsAside steps
 heeded party after frame steps goes (IsDispatched.drops says did after_is is) = aside_as steps _ did refl

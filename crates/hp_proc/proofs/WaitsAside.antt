@@ -120,18 +120,18 @@ module _ (denies : Denials) (count : ℕ) where
       (aside_then first rest (wait_aside until heeds party mid first None waits) (outlasted until heeds mid after rest ended lasts))
 
   looked_aside : (ask : Ask) (steps : List MailStep) (answer : Found) → IsLookAt ask steps answer → IsAside steps
-  looked_aside ask steps answer look = aside_as steps _ look.are (refl, (refl, (tt, (refl, (refl, (tt, refl))))))
+  looked_aside ask steps answer look = aside_as steps _ look.are (refl, refl, tt, (refl, refl, tt, refl))
 
   sent_aside : (party : Party) (ask : Ask) (since : ℕ) (steps : List MailStep) → IsSentAs party ask since steps → IsAside steps
   sent_aside party ask since steps sent =
-      aside_as steps _ sent.are (refl, (refl, (tt, (refl, (refl, (tt, ((_, sent.says, tt), refl)))))))
+      aside_as steps _ sent.are (refl, refl, tt, (refl, refl, tt, ((_, sent.says, tt), refl)))
 
   settled_late : (party after : Party) (ask : Ask) (since : ℕ) (steps : List MailStep) → IsSettledLate denies count party after ask since steps
       → IsAside steps
   settled_late party after ask since steps late =
       aside_as steps _ late.are
       (aside_then late.waited _ (wait_aside _ false party after late.waited (Some late.now) late.waits)
-      (refl, (refl, (tt, (refl, (refl, (tt, refl)))))))
+      (refl, refl, tt, (refl, refl, tt, refl)))
 
   awaited_by : (party after : Party) (ask : Ask) (since : ℕ) (steps : List MailStep) (run : Option Run)
       → IsAwaitedBy denies count party after ask since steps run → IsAside steps
@@ -156,7 +156,7 @@ module _ (denies : Denials) (count : ℕ) where
   settled_on party after ask since steps stopped late =
       aside_as steps _ late.are
       (aside_then late.waited _ (waited_out _ false party after late.waited late.now stopped late.waits)
-      (refl, (refl, (tt, (refl, (refl, (tt, refl)))))))
+      (refl, refl, tt, (refl, refl, tt, refl)))
 
   awaited_on : (party after : Party) (ask : Ask) (since : ℕ) (steps : List MailStep) (run : Option Run) (stopped : Bool)
       → IsAwaitedOn denies count party after ask since steps run stopped → IsAside steps

@@ -1,5 +1,5 @@
 -- What a line has to do with the names: it takes them once at most, and gives them back as its changes leave them.
-use Rattle.std.specs.Prelude.{◌≡◌, List, [], ◌∷◌, filter_map, fold, Option, Some, None, ⊤, ⊥}
+use Rattle.std.specs.Prelude.{◌≡◌, List, [], ◌∷◌, filter_map, fold, Option, Some, None, ⊤}
 use Rattle.hp_hall.specs.Mail.{MailStep, Gives, Takes}
 use Rattle.hp_hall.specs.declared.kept.Kept.TheVariants.{Names}
 use Rattle.hp_hall.specs.declared.slot.TheConstants.{NAMES_SLOT}

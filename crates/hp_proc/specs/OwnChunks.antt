@@ -36,7 +36,7 @@ chunks_beside heap chunks = filter (λ chunk. not (chunk.heap == heap)) chunks
 -- they lie in heaps, and each stands before the next
 pub record AreOwnChunks (chunks : List OwnChunk) : Type 0 where
   pub few : All (λ chunk. chunk.heap < MAX_HEAPS) chunks
-  pub rising : IsSortedBy (λ first second. is_before first second ≡ true) chunks
+  pub rising : IsSortedBy is_before chunks
 
 -- those of that heap stand first
 abbrev pub AreFirstOf : ℕ → List OwnChunk → Type 0
