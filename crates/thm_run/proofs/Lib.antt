@@ -24,6 +24,7 @@ mod Hearing
 pub mod JudgedGrowths
 pub mod Lasting
 pub mod Leaving
+pub mod BesideChunks
 pub mod LinesOnward
 pub mod SeenAndShown
 pub mod Made

@@ -1,6 +1,6 @@
 -- What a participant does while others do their part, in the steps between which others may act. The rule "Together" of
 -- docs/RUNS.md.
-use Rattle.std.specs.Prelude.{◌≡◌, ◌≢◌, ℕ, ◌+◌, ◌*◌, ◌≤◌, ⊤, Bool, true, false, List, [], ◌∷◌, ◌++◌, length, map, Contains, Option, Some, None, Ok}
+use Rattle.std.specs.Prelude.{◌≡◌, ◌≢◌, ℕ, ◌+◌, ◌*◌, ◌≤◌, ⊤, Bool, true, false, List, [], ◌∷◌, ◌++◌, length, map, Contains, Option, Some, None, Result, Ok}
 use Rattle.hp_base.specs.declared.caught.Caught.{Caught}
 use Rattle.hp_base.specs.declared.chunk.Chunk.{Chunk}
 use Rattle.hp_base.specs.declared.plan.Action.{Action}
@@ -22,7 +22,7 @@ use Rattle.hp_heap.specs.declared.entry.HeapAnswer.{HeapAnswer}
 use Rattle.hp_heap.specs.declared.entry.HeapAnswer.TheVariants as gives
 use Rattle.hp_heap.specs.declared.entry.HeapCall.{HeapCall}
 use Rattle.hp_heap.specs.declared.entry.HeapCall.TheVariants as call
-use Rattle.hp_maps.specs.MapsView.{MapsView}
+use Rattle.hp_maps.specs.MapsView.{MapsView, chunk_rows}
 use Rattle.hp_maps.specs.Events.{IsToldByAddress}
 use Rattle.hp_segs.specs.LaterSteps.{after_arm, after_leave, after_withdraw}
 use Rattle.hp_segs.specs.Ranges.{after_claim_range, after_release_range, range_plan}
@@ -30,6 +30,7 @@ use Rattle.hp_segs.specs.SegsView.{SegsView, is_member}
 use Rattle.hp_segs.specs.Steps.{after_claim, after_retire}
 use Rattle.hp_segs.specs.declared.ask.Ask.{Ask}
 use Rattle.hp_segs.specs.declared.external_range.ExternalRange.{ExternalRange}
+use Rattle.hp_segs.specs.declared.fault.RangeFault.{RangeFault}
 use Rattle.hp_serve.specs.Asking.{alloc_body, free_body, next_number}
 use Rattle.hp_serve.specs.Attaching.{Attaches, after_attaching, after_detaching}
 use Rattle.hp_proc.specs.Courses.{Standing, numbered_in, standing_tried}
@@ -42,7 +43,7 @@ use Rattle.hp_proc.specs.SharedNames.{NamesChange, SharedNames}
 use Rattle.hp_script.specs.declared.line.Act.{Act}
 use Rattle.hp_script.specs.declared.answer.Answer.{Answer as LineAnswer}
 use Rattle.hp_proc.specs.Doing.{Counted, Done}
-use Rattle.hp_proc.specs.Doing.Done.{Asked, Called, CaughtUp, ChunkMapped, GaveUp, HeapSeen, Looked, NamesChanged, NamesRead, StatsRead}
+use Rattle.hp_proc.specs.Doing.Done.{Asked, Called, CaughtUp, ChunkMapped, GaveUp, HeapSeen, Looked, NamesChanged, NamesRead, RangePlanned, StatsRead}
 use Rattle.hp_serve.specs.Frames.{Says}
 use Rattle.hp_heap.specs.HistoryLaws.{run_cut}
 use Rattle.hp_serve.specs.Asking.{ask_of}
@@ -126,6 +127,9 @@ pub data Quietly : Seat → Seat → Type 0 where
   -- it changed the names, or was handed the state of an external heap
   changes_names : (seat : Seat) (change : NamesChange) → Quietly seat (having_done seat.party (NamesChanged change ∷ []) seat)
   sees_heap : (seat : Seat) (heap : ℕ) (history : List Entry) → Quietly seat (having_done seat.party (HeapSeen heap history ∷ []) seat)
+  -- it was handed the plan that the segment value has for memory
+  plans_range : (seat : Seat) (addr len page : ℕ) (plan : Result ℕ RangeFault)
+      → Quietly seat (having_done seat.party (RangePlanned addr len page plan ∷ []) seat)
   -- it mapped the pages of a chunk, or failed to; or its table lost the rows of one
   maps_chunk : (seat : Seat) (chunk : Chunk) (maps : MapsView) (ended : Caught) → MapsChunk chunk seat.party.maps maps ended
       → Quietly seat (having_done (with_maps maps seat.party) (ChunkMapped chunk ended ∷ []) seat)
@@ -220,7 +224,7 @@ pub data Handles (count who : ℕ) : Seat → Seat → SegsView → SegsView →
       → Handles count who seat
       (leaving (standing_tried (length segs.log) caught seat.standing)
       (having_done after (Looked (length segs.log) ∷ CaughtUp (length segs.log) caught ∷ []) seat)) segs (after_attaching who caught segs)
-  detaches : (seat : Seat) (segs : SegsView) (told : List Listener) → who ≢ 0
+  detaches : (seat : Seat) (segs : SegsView) (told : List Listener) → who ≢ 0 → chunk_rows seat.party.maps.rows ≡ []
       → IsToldByAddress seat.party.maps.rows seat.party.listeners told
       → Handles count who seat
       (leaving (record seat.standing { attached = false }) (seated (after_detaching told seat.party) seat)) segs (after_leave who segs)

@@ -11,9 +11,10 @@ use Rattle.hp_heap.proofs.AllocFacts.ChoiceLaw.{Contains-here}
 use Rattle.hp_script.specs.declared.answer.Answer.{Answer}
 use Rattle.hp_script.specs.declared.workload.Workload.{Workload}
 use Rattle.hp_proc.specs.LineTrees.{doing_of}
-use Rattle.hp_proc.specs.Courses.{Standing, after_line, refusals_in}
+use Rattle.hp_proc.specs.Courses.{Standing, after_line}
 use Rattle.hp_proc.specs.Doing.{Doing, Leads}
 use Rattle.hp_proc.specs.LinesDone.{AreDone, Course, IsDone, courses_of, trace_of}
+use Rattle.hp_proc.specs.Handed.{calls_failed}
 use Rattle.thm_run.specs.EndLaws.{IsRefusedAttach}
 use Rattle.thm_run.specs.SoFar.{trace_for}
 use Rattle.thm_run.proofs.LineSteps.LineTries.{line_refused}
@@ -51,7 +52,7 @@ rise_from xs rising i j before within = AllPairs-from_increasing xs rising i j 0
 module _ (workload : Workload) (who call : ℕ) where
   -- a line that attaches and is refused shows that call alone
   shows_call : (standing : Standing) (course : Course) → IsDone workload standing course → IsRefusedAttach who call course
-      → refusals_in course.trace ≡ call ∷ []
+      → calls_failed course.trace ≡ call ∷ []
   shows_call standing course done refused =
       line_refused course.line done.facts call course.trace refused.act
       (subst (λ (given : Answer). Leads (doing_of course.line course.line.act done.facts) course.trace (Doing.Ended given)) refused.answer
@@ -63,7 +64,7 @@ module _ (workload : Workload) (who call : ℕ) where
   -- each such line shows its call in what was done for the participant's lines
   pub shows_in : (standing : Standing) (courses : List Course) → AreDone workload standing (courses_of who courses) → (place : ℕ)
       (course : Course) → slice_get courses place ≡ Some course → IsRefusedAttach who call course
-      → Contains (refusals_in (trace_for who courses)) call
+      → Contains (calls_failed (trace_for who courses)) call
   shows_in standing [] done place course here refused = cc
   shows_in standing (first ∷ courses) done place course here refused =
       by_whose (λ standing done place there. shows_in standing courses done place course there refused)
@@ -71,30 +72,30 @@ module _ (workload : Workload) (who call : ℕ) where
     where
       own_first : ((standing : Standing) → AreDone workload standing (courses_of who courses) → (place : ℕ)
           → slice_get courses place ≡ Some course
-          → Contains (refusals_in (trace_for who courses)) call) → (own : (first.line.participant == who) ≡ true)
+          → Contains (calls_failed (trace_for who courses)) call) → (own : (first.line.participant == who) ≡ true)
           → (place : ℕ) → slice_get (first ∷ courses) place ≡ Some course
-          → Contains (refusals_in (first.trace ++ trace_for who courses)) call
+          → Contains (calls_failed (first.trace ++ trace_for who courses)) call
       own_first further own zero at_first =
           let same : first ≡ course = cc in
           let both : AreDone workload standing (first ∷ courses_of who courses) =
           subst (AreDone workload standing) (trace_own who first courses own) done in
-          let shown : refusals_in first.trace ≡ call ∷ [] =
+          let shown : calls_failed first.trace ≡ call ∷ [] =
           shows_call standing first both.0 (subst (IsRefusedAttach who call) (sym same) refused) in
           subst (λ calls. Contains calls call) (sym (refusals_both first.trace (trace_for who courses)))
-          (Contains-append_left (refusals_in first.trace) (refusals_in (trace_for who courses)) call
+          (Contains-append_left (calls_failed first.trace) (calls_failed (trace_for who courses)) call
           (subst (λ calls. Contains calls call) (sym shown) (Contains-here call [])))
       own_first further own (suc place) later =
           let both : AreDone workload standing (first ∷ courses_of who courses) =
           subst (AreDone workload standing) (trace_own who first courses own) done in
           subst (λ calls. Contains calls call) (sym (refusals_both first.trace (trace_for who courses)))
-          (Contains-append_right (refusals_in first.trace) (refusals_in (trace_for who courses)) call
+          (Contains-append_right (calls_failed first.trace) (calls_failed (trace_for who courses)) call
           (further (after_line first.line first.answer first.trace standing) both.1 place later))
 
       other_first : ((standing : Standing) → AreDone workload standing (courses_of who courses) → (place : ℕ)
           → slice_get courses place ≡ Some course
-          → Contains (refusals_in (trace_for who courses)) call) → (other : (first.line.participant == who) ≡ false)
+          → Contains (calls_failed (trace_for who courses)) call) → (other : (first.line.participant == who) ≡ false)
           → (place : ℕ) → slice_get (first ∷ courses) place ≡ Some course
-          → Contains (refusals_in (trace_for who courses)) call
+          → Contains (calls_failed (trace_for who courses)) call
       other_first further other zero at_first =
           let same : first ≡ course = cc in
           let wrong : true ≡ false = sym (is_own first (subst (IsRefusedAttach who call) (sym same) refused)) ∙ other in
@@ -104,19 +105,19 @@ module _ (workload : Workload) (who call : ℕ) where
 
       by_whose : ((standing : Standing) → AreDone workload standing (courses_of who courses) → (place : ℕ)
           → slice_get courses place ≡ Some course
-          → Contains (refusals_in (trace_for who courses)) call)
+          → Contains (calls_failed (trace_for who courses)) call)
           → ((first.line.participant == who) ≡ true) ⊎ ((first.line.participant == who) ≡ false)
-          → Contains (refusals_in (trace_for who (first ∷ courses))) call
+          → Contains (calls_failed (trace_for who (first ∷ courses))) call
       by_whose further (inl own) =
-          subst (λ lines. Contains (refusals_in (trace_of lines)) call) (sym (trace_own who first courses own))
+          subst (λ lines. Contains (calls_failed (trace_of lines)) call) (sym (trace_own who first courses own))
           (own_first further own place here)
       by_whose further (inr other) =
-          subst (λ lines. Contains (refusals_in (trace_of lines)) call) (sym (trace_other who first courses other))
+          subst (λ lines. Contains (calls_failed (trace_of lines)) call) (sym (trace_other who first courses other))
           (other_first further other place here)
 
   -- where the calls rise, two such lines of one call are one line
   lines_same : (standing : Standing) (courses : List Course) → AreDone workload standing (courses_of who courses)
-      → Rises (refusals_in (trace_for who courses)) → (place other : ℕ) (course second : Course) → slice_get courses place ≡ Some course
+      → Rises (calls_failed (trace_for who courses)) → (place other : ℕ) (course second : Course) → slice_get courses place ≡ Some course
       → slice_get courses other ≡ Some second → IsRefusedAttach who call course → IsRefusedAttach who call second → place ≡ other
   lines_same standing [] done rise place other course second here there refused too = cc
   lines_same standing (first ∷ courses) done rise place other course second here there refused too =
@@ -130,14 +131,14 @@ module _ (workload : Workload) (who call : ℕ) where
       never own its behind one at_one refused =
           let both : AreDone workload standing (first ∷ courses_of who courses) =
           subst (AreDone workload standing) (trace_own who first courses own) done in
-          let calls : refusals_in (trace_for who (first ∷ courses)) ≡ call ∷ refusals_in (trace_for who courses) =
-          ap (λ lines. refusals_in (trace_of lines)) (trace_own who first courses own)
+          let calls : calls_failed (trace_for who (first ∷ courses)) ≡ call ∷ calls_failed (trace_for who courses) =
+          ap (λ lines. calls_failed (trace_of lines)) (trace_own who first courses own)
           ∙ (refusals_both first.trace (trace_for who courses)
-          ∙ ap (λ calls. calls ++ refusals_in (trace_for who courses)) (shows_call standing first both.0 its)) in
-          not_behind call (refusals_in (trace_for who courses)) (subst Rises calls rise)
+          ∙ ap (λ calls. calls ++ calls_failed (trace_for who courses)) (shows_call standing first both.0 its)) in
+          not_behind call (calls_failed (trace_for who courses)) (subst Rises calls rise)
           (shows_in (after_line first.line first.answer first.trace standing) courses both.1 behind one at_one refused)
 
-      own_first : ((standing : Standing) → AreDone workload standing (courses_of who courses) → Rises (refusals_in (trace_for who courses))
+      own_first : ((standing : Standing) → AreDone workload standing (courses_of who courses) → Rises (calls_failed (trace_for who courses))
           → (place other : ℕ) → slice_get courses place ≡ Some course → slice_get courses other ≡ Some second → place ≡ other)
           → (own : (first.line.participant == who) ≡ true) → (place other : ℕ) → slice_get (first ∷ courses) place ≡ Some course
           → slice_get (first ∷ courses) other ≡ Some second → place ≡ other
@@ -151,12 +152,12 @@ module _ (workload : Workload) (who call : ℕ) where
       own_first further own (suc place) (suc other) at_one at_other =
           let both : AreDone workload standing (first ∷ courses_of who courses) =
           subst (AreDone workload standing) (trace_own who first courses own) done in
-          let calls : refusals_in (trace_for who (first ∷ courses)) ≡ refusals_in first.trace ++ refusals_in (trace_for who courses) =
-          ap (λ lines. refusals_in (trace_of lines)) (trace_own who first courses own)
+          let calls : calls_failed (trace_for who (first ∷ courses)) ≡ calls_failed first.trace ++ calls_failed (trace_for who courses) =
+          ap (λ lines. calls_failed (trace_of lines)) (trace_own who first courses own)
           ∙ refusals_both first.trace (trace_for who courses) in
           ap suc
           (further (after_line first.line first.answer first.trace standing) both.1
-          (rises_behind (refusals_in first.trace) (refusals_in (trace_for who courses))
+          (rises_behind (calls_failed first.trace) (calls_failed (trace_for who courses))
           (subst Rises calls rise)) place other at_one at_other)
 
       not_its : (other : (first.line.participant == who) ≡ false) → IsRefusedAttach who call first → ⊥
@@ -165,7 +166,7 @@ module _ (workload : Workload) (who call : ℕ) where
           cc
 
       other_first : ((standing : Standing) → AreDone workload standing (courses_of who courses)
-          → Rises (refusals_in (trace_for who courses))
+          → Rises (calls_failed (trace_for who courses))
           → (place other : ℕ) → slice_get courses place ≡ Some course → slice_get courses other ≡ Some second → place ≡ other)
           → (apart : (first.line.participant == who) ≡ false) → (place other : ℕ) → slice_get (first ∷ courses) place ≡ Some course
           → slice_get (first ∷ courses) other ≡ Some second → place ≡ other
@@ -178,18 +179,18 @@ module _ (workload : Workload) (who call : ℕ) where
       other_first further apart (suc place) (suc other) at_one at_other =
           ap suc
           (further standing (subst (AreDone workload standing) (trace_other who first courses apart) done)
-          (subst Rises (ap (λ lines. refusals_in (trace_of lines)) (trace_other who first courses apart)) rise) place other at_one at_other)
+          (subst Rises (ap (λ lines. calls_failed (trace_of lines)) (trace_other who first courses apart)) rise) place other at_one at_other)
 
-      by_whose : ((standing : Standing) → AreDone workload standing (courses_of who courses) → Rises (refusals_in (trace_for who courses))
+      by_whose : ((standing : Standing) → AreDone workload standing (courses_of who courses) → Rises (calls_failed (trace_for who courses))
           → (place other : ℕ) → slice_get courses place ≡ Some course → slice_get courses other ≡ Some second → place ≡ other)
           → ((first.line.participant == who) ≡ true) ⊎ ((first.line.participant == who) ≡ false) → place ≡ other
       by_whose further (inl own) = own_first further own place other here there
       by_whose further (inr apart) = other_first further apart place other here there
 
   pub places_same : (standing : Standing) (courses : List Course) → AreDone workload standing (courses_of who courses)
-      → IsStrictlyIncreasing (refusals_in (trace_for who courses)) → (place other : ℕ) (course second : Course)
+      → IsStrictlyIncreasing (calls_failed (trace_for who courses)) → (place other : ℕ) (course second : Course)
       → slice_get courses place ≡ Some course → slice_get courses other ≡ Some second → IsRefusedAttach who call course
       → IsRefusedAttach who call second → place ≡ other
   places_same standing courses done rising place other course second here there refused too =
-      lines_same standing courses done (rise_from (refusals_in (trace_for who courses)) rising) place other course second here there refused
+      lines_same standing courses done (rise_from (calls_failed (trace_for who courses)) rising) place other course second here there refused
       too

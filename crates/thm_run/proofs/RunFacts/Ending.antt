@@ -11,7 +11,8 @@ use Rattle.hp_proc.specs.Ends.{IsSoloEnd}
 use Rattle.hp_proc.specs.LinesDone.{Course, IsNoneUngranted, courses_of, trace_of}
 use Rattle.hp_proc.specs.Outcomes.{AreAskedFor, IsRefusedIn}
 use Rattle.hp_serve.specs.Party.{Party}
-use Rattle.hp_proc.specs.Seen.{AreRefusals, AreSeen, seen_in}
+use Rattle.hp_proc.specs.Seen.{AreSeen, seen_in}
+use Rattle.hp_proc.specs.Handed.{AreOwnFailures}
 use Rattle.thm_run.specs.SoFar.{SoFar}
 use Rattle.thm_run.specs.EndLaws.{IsAtEnd}
 use Rattle.thm_run.proofs.WhatWentBack.GoneSoFar.{gone_so_far, outcomes_so_far}
@@ -31,7 +32,7 @@ pub record AreKnown (workload : Workload) (courses : List Course) (segs : SegsVi
   pub asked_for : AreAskedFor segs
   pub causes : All (IsRefusedIn workload) segs.asks
   pub seen : (who : ℕ) → AreSeen (length segs.log) (seen_in segs.log segs.asks who 1 (trace_of (courses_of who courses)))
-  pub refusals : (who : ℕ) → AreRefusals segs.log (trace_of (courses_of who courses))
+  pub refusals : (who : ℕ) → AreOwnFailures segs.log (trace_of (courses_of who courses))
 
 module _ (workload : Workload) (courses : List Course) (answers : List Answer) (parties : List Party) (hall : HallView)
     (heaps : List HeapView) (segs : SegsView) (tables : List Table) (so : SoFar workload courses parties hall)
