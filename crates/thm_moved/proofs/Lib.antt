@@ -1,3 +1,4 @@
+pub mod AgreedAtEnd
 pub mod AwaitedAtBoard
 pub mod CameToBoard
 pub mod ClosedHeaps
@@ -14,5 +15,6 @@ pub mod NamesAtBoard
 pub mod NamesChain
 pub mod NamesChanged
 pub mod NamesHeld
+pub mod NamesLeftAtBoard
 pub mod NamesOfWays
 pub mod OwnEntries

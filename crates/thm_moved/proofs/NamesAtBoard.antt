@@ -28,7 +28,8 @@ use Rattle.thm_moved.proofs.NamesChain.{AreOnward, GivesLater, HoldOnward, lines
 use Rattle.thm_moved.proofs.NamesChanged.{changes_are_made}
 use Rattle.thm_moved.proofs.NamesHeld.{GoesOn, names_by, names_held_from_free, names_stay}
 use Rattle.thm_moved.proofs.NamesOfWays.{AreHoldsOf, held_in, shared_hold, way_holds}
-use Rattle.thm_moved.specs.AtBoard.{AllCameToTheirSeats, NamesChangedAtBoard, NamesHandedAtBoard}
+use Rattle.thm_moved.specs.AtBoard.{AllCameToTheirSeats}
+use Rattle.thm_moved.specs.NamesLeft.{NamesChangedAtBoard, NamesHandedAtBoard}
 
 -- HOLDS AS LINES KNOW THEM
 

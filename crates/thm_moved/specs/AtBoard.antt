@@ -1,8 +1,7 @@
 -- Participants that came home from threads over one board, each told by its own way and its seat's view; and that what they and the board leave is
 -- an end of their workload. The rules "Opening and closing" of docs/BOARD.md and "Together" of docs/RUNS.md.
 use Rattle.std.specs.Prelude.{◌≡◌, ℕ, ◌≤◌, List, [], Contains, length, map, take, Some, slice_get}
-use Rattle.std.specs.List.Sorted.{IsPermutation}
-use Rattle.hp_board.specs.Closing.{HaveMoved, IsNotedUpTo, handed_out}
+use Rattle.hp_board.specs.Closing.{AreLeftNames, HaveMoved, IsNotedUpTo, handed_out}
 use Rattle.hp_board.specs.Lines.{made_by_then}
 use Rattle.hp_board.specs.SeatView.{SeatView}
 use Rattle.hp_board.specs.Views.{BeginsWith, made_in, values_of}
@@ -24,12 +23,8 @@ use Rattle.hp_stats.specs.StatViews.{PenView}
 use Rattle.hp_zone.specs.declared.names.Names.{Names as NamesView}
 use Rattle.hp_proc.specs.Courses.{calls_in}
 use Rattle.hp_proc.specs.Ends.{IsEnd}
-use Rattle.hp_proc.specs.Handed.{AreNamesHanded, names_shown}
-use Rattle.hp_proc.specs.Handing.{shared_of}
 use Rattle.hp_proc.specs.Histories.{entries_for}
 use Rattle.hp_proc.specs.LinesDone.{Course, trace_of}
-use Rattle.hp_proc.specs.NamesLog.{changes_in, changes_made}
-use Rattle.hp_proc.specs.SharedNames.{no_changes}
 use Rattle.hp_weave.specs.Weaving.{woven}
 use Rattle.thm_run.specs.EndLaws.{IsGiven}
 use Rattle.thm_run.specs.Seats.{Seat}
@@ -75,6 +70,7 @@ pub record AllCameToTheirSeats (workload : Workload) (answers : List Answer) (he
   pub pens : List PenView
   pub names : NamesView
   pub closed : IsClosedOver opening seats heaps pens segs
+  pub left : AreLeftNames opening seats heaps segs names
   pub noted : (seat other : SeatView) → Contains seats seat → Contains seats other → IsNotedUpTo heaps seat.mine other.mine
   pub moved : HaveMoved opening seats (handed_out heaps pens segs names)
   -- the participants
@@ -104,18 +100,6 @@ abbrev pub HomeAtBoard : Type 0
 HomeAtBoard = (workload : Workload) (answers : List Answer) (heaps : List HeapView) (segs : SegsView) (tables : List Table)
     (all : AllCameToTheirSeats workload answers heaps segs tables)
     → ComeHomeSo workload answers heaps segs tables all.first all.last all.courses
-
--- the names that each of them is handed in its lines are fronts of those that the board hands out, and never grow shorter from line to line
-abbrev pub NamesHandedAtBoard : Type 0
-NamesHandedAtBoard = (workload : Workload) (answers : List Answer) (heaps : List HeapView) (segs : SegsView) (tables : List Table)
-    (all : AllCameToTheirSeats workload answers heaps segs tables) (who : ℕ)
-    → AreNamesHanded (shared_of all.names) (names_shown no_changes (trace_of (all.courses who)))
-
--- and these have the changes that the lines made and no others, each at the place in its log at which its line made it
-abbrev pub NamesChangedAtBoard : Type 0
-NamesChangedAtBoard = (workload : Workload) (answers : List Answer) (heaps : List HeapView) (segs : SegsView) (tables : List Table)
-    (all : AllCameToTheirSeats workload answers heaps segs tables)
-    → IsPermutation (changes_made workload.participants (λ who. trace_of (all.courses who))) (changes_in (shared_of all.names))
 
 -- and that is an end of their workload, of these lines as they were done
 abbrev pub EndAtBoard : Type 0
