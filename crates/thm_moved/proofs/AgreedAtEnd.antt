@@ -17,7 +17,7 @@ use Rattle.hp_base.specs.declared.row.Row.{Row}
 use Rattle.hp_board.specs.Closing.{left_naming}
 use Rattle.hp_external.proofs.ChunkLemmas.{one_of_list}
 use Rattle.hp_external.proofs.ListLemmas.{filter_none}
-use Rattle.hp_external.proofs.RowLemmas.{claimed_rows}
+use Rattle.hp_external.proofs.RowLemmas.{claimed_rows, own_rows}
 use Rattle.hp_external.specs.Tie.{AreClaimed, AreListed, AreMarked, IsMarked, IsOfClaim, claim_of, is_memory, is_range_of}
 use Rattle.hp_hall.proofs.ClaimedChunks.{agreed_claimed, chunk_named}
 use Rattle.hp_hall.specs.AgreedNames.{AreAgreedNames, IsNamedBy, directory_name, directory_range}
@@ -31,7 +31,6 @@ use Rattle.hp_heap.specs.Tiling.{IsTiled}
 use Rattle.hp_maps.specs.Chunks.{is_of_chunk, rows_of_chunk}
 use Rattle.hp_maps.specs.MapsView.{chunk_rows, is_of_log}
 use Rattle.hp_segs.specs.declared.external_range.ExternalRange.{ExternalRange}
-use Rattle.hp_serve.proofs.ChunksBeside.{row_of_its}
 use Rattle.hp_serve.specs.Tied.{HasChunks}
 use Rattle.hp_zone.specs.Directory.{IsDirectory, PlainDirectory, directory_after, heap_at, opening}
 use Rattle.hp_zone.specs.declared.heap_name.HeapName.{HeapName}
@@ -72,6 +71,13 @@ chunks_are heap = refl
 marks_are : (who : ℕ) (heap : PlainHeap) → marked_by who heap ≡ map unmarked (filter (λ chunk. has_bit chunk.attached who) heap.chunks)
 unfolding marked_by
 marks_are who heap = refl
+
+-- a row of a chunk is of its list
+row_list : (chunk : Chunk) (row : Row) → Contains (rows_of_chunk chunk) row → row.list ≡ chunk.list
+row_list chunk row has =
+    let passes =
+    Contains-filter (is_of_chunk chunk) (rows_of_chunk chunk) row (subst (λ (l : List Row). Contains l row) (sym (own_rows chunk)) has) in
+    eqb-true row.list chunk.list (and_parts (eqb row.generation 0) (eqb row.list chunk.list) passes.0).1
 
 -- names by their logs leave the directory
 pub directory_is : (pools : List PoolLine) (names : NamesView) → IsDirectory names.heaps → names.heaps.sockets ≡ sockets_of pools
@@ -191,9 +197,8 @@ module _ (names : NamesView) (heaps : List HeapView) (claims : List ExternalRang
       none_of_it bit row contains its =
           let parts = and_parts (eqb row.generation 0) (eqb row.list chunk.list) its in
           let one = has.only row contains in
-          let of_it = row_of_its one.1 row one.4 in
           let other = marked_in_heap one.0 one.1 one.2 one.3 in
-          let list : one.1.list ≡ chunk.list = sym of_it.list ∙ eqb-true row.list chunk.list parts.1 in
+          let list : one.1.list ≡ chunk.list = sym (row_list one.1 row one.4) ∙ eqb-true row.list chunk.list parts.1 in
           let here : one.0 ≡ index =
           one_heap names (left_naming heaps) claims agreed distinct one.0 index (unmarked other.its) (unmarked chunk) one.2 (low index heap there)
           (named one.0 other.heap other.its other.there other.among) (named index heap chunk there among)

@@ -7,6 +7,8 @@ use Rattle.std.proofs.lemmas.Grind.{flat_map-append}
 use Rattle.std.proofs.lemmas.List.{drop_all, drop_at}
 use Rattle.std.proofs.lemmas.List.Sorted.{IsPermutation-append, IsPermutation-append_comm, IsPermutation-append_left, IsPermutation-append_right, IsPermutation-refl, IsPermutation-sym, IsPermutation-trans}
 use Rattle.hp_board.specs.Views.{BeginsWith}
+use Rattle.hp_zone.specs.declared.name_change.NameChange.{NameChange}
+use Rattle.hp_zone.specs.declared.zone.ZoneChange.{ZoneChange}
 use Rattle.hp_proc.specs.Doing.{Done}
 use Rattle.hp_proc.specs.Doing.Done.{NamesChanged, NamesRead}
 use Rattle.hp_proc.specs.LinesDone.{Course, trace_of}
@@ -85,8 +87,8 @@ crossed a b c d =
 pub between_on : (old mid new : SharedNames) → AreLater old mid → AreLater mid new
     → IsPermutation (came_between old new) (came_between old mid ++ came_between mid new)
 between_on old mid new first then =
-    let zone = λ (entry : ℕ × _). (entry.0, OfZones entry.1) in
-    let heap = λ (entry : ℕ × _). (entry.0, OfHeaps entry.1) in
+    let zone : ℕ × ZoneChange → ℕ × NamesChange = λ entry. (entry.0, OfZones entry.1) in
+    let heap : ℕ × NameChange → ℕ × NamesChange = λ entry. (entry.0, OfHeaps entry.1) in
     let zones : map zone (numbered_after (length old.zones) new.zones)
     ≡ map zone (numbered_after (length old.zones) mid.zones) ++ map zone (numbered_after (length mid.zones) new.zones) =
     ap (map zone) (numbered_on old.zones mid.zones new.zones first.zones then.zones)
