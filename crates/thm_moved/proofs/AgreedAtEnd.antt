@@ -48,8 +48,8 @@ use Rattle.thm_run.proofs.PathSteps.Walked.{get_there}
 -- what passes two tests is counted by the second one among what passes the first
 count_both : {X : Type 0} (p q : X → Bool) (xs : List X) → count_by (λ x. p x && q x) xs ≡ count_by q (filter p xs)
 count_both p q [] = refl
-count_both p q (x ∷ xs) =
-    let both = λ x. p x && q x in
+count_both {X} p q (x ∷ xs) =
+    let both : X → Bool = λ x. p x && q x in
     cond_both (p x) (x ∷ filter p xs) (filter p xs) (λ zs. count_by both (x ∷ xs) ≡ count_by q zs)
     (λ kept.
     let weight : cond {A = ℕ} (p x && q x) 1 0 ≡ cond (q x) 1 0 = ap (λ (b : Bool). cond {A = ℕ} (b && q x) 1 0) kept in
