@@ -3,6 +3,7 @@ pub mod AllocFacts
 pub mod AttachedLines
 pub mod HandFacts
 pub mod ChosenHeaps
+pub mod ChunkLies
 mod ChunksLeft
 pub mod Continued
 pub mod FoundZones
@@ -14,6 +15,7 @@ pub mod LawLemmas
 pub mod LeastData
 pub mod LineEnds
 pub mod LineFacts
+pub mod LinesApart
 pub mod LinesInHall
 pub mod LinesOrdered
 pub mod MadeHeaps
@@ -22,8 +24,10 @@ pub mod Mapped
 mod MarksApart
 mod MayAttachHere
 pub mod MeantHeaps
+pub mod NamedPlaces
 pub mod NamesFollow
 pub mod NamesAround
+pub mod WhosePages
 mod NamesHeld
 mod NamesRead
 pub mod NotedCame
@@ -31,6 +35,7 @@ pub mod NotedLeft
 pub mod Noted
 pub mod OrdinaryElements
 pub mod PagesStay
+pub mod PlacesRead
 pub mod Plans
 mod PoolsFrom
 mod Registered
@@ -46,5 +51,6 @@ pub mod SocketHeapLemmas
 pub mod SocketNames
 mod StatsLines
 pub mod StepsOrdered
+pub mod TreeDeeds
 pub mod Unarmed
 pub mod WorkedLines
