@@ -18,6 +18,7 @@ pub mod LineFacts
 pub mod LinesApart
 pub mod LinesInHall
 pub mod LinesOrdered
+pub mod Lookups
 pub mod MadeHeaps
 pub mod Makers
 pub mod Mapped

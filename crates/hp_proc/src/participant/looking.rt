@@ -15,7 +15,7 @@ ghost use Rattle.hp_proc.specs.SharedNames.{SharedNames};
 ghost use Rattle.hp_proc.specs.Progress.{AreOnce};
 ghost use Rattle.hp_proc.specs.declared.searched_heap.SearchedHeap.{SearchedHeap};
 ghost use Rattle.hp_hall.specs.HallState.{IsBusy, OthersStay};
-ghost use Rattle.hp_proc.specs.LineInHall.{DoesApartHere, DoesHeld, DoesHere, DoesOnceHere, FindsPlaces, HaltsHere, HasCalled, HasRoom, HoldsIn, IsReadyAgain, IsReadyIn, KeepsHeld};
+ghost use Rattle.hp_proc.specs.LineInHall.{DoesApartHere, DoesHeld, DoesHere, DoesOnceHere, FindsPlaces, HaltsHere, HasCalled, HasRoom, HoldsIn, IsReadyIn, KeepsHeld};
 
 use super::Participant;
 use crate::element_act::{ElementAct, Left};
