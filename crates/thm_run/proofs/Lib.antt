@@ -29,7 +29,8 @@ pub mod LinesOnward
 pub mod SeenAndShown
 pub mod Made
 pub mod Members
-pub mod NamesStay
+pub mod NamesAlong
+pub mod SlotAlong
 pub mod Picked
 pub mod Registrations
 pub mod Rising
