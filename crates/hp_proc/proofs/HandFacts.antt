@@ -1,3 +1,4 @@
+pub mod BesideNames
 pub mod Boxed
 pub mod HandAsked
 pub mod HandAttaches
@@ -14,3 +15,4 @@ pub mod HandTried
 pub mod HeldOn
 pub mod Holds
 pub mod OnceHeld
+pub mod SeenHeap

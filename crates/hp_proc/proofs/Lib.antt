@@ -35,6 +35,8 @@ mod Registered
 mod RegisteredHere
 pub mod RegisteredLines
 mod ReleasedMemory
+pub mod ServesAside
+pub mod WaitsAside
 mod SharedMarks
 mod Reservations
 pub mod Rising

@@ -30,7 +30,7 @@ use Rattle.hp_serve.specs.Asking.{IsAsked}
 use Rattle.hp_serve.specs.Attaching.{Attaches, after_attaching, after_detaching}
 use Rattle.hp_proc.specs.Courses.{standing_tried}
 use Rattle.hp_proc.specs.Doing.{Done}
-use Rattle.hp_proc.specs.Doing.Done.{Asked, Called, CaughtUp, ChunkMapped, GaveUp, HeapSeen, Looked, NamesChanged, NamesRead, StatsRead}
+use Rattle.hp_proc.specs.Doing.Done.{Asked, Called, CaughtUp, ChunkMapped, GaveUp, HeapSeen, Looked, NamesChanged, NamesRead, RangePlanned, StatsRead}
 use Rattle.hp_proc.specs.Handing.{counted_in, shared_of}
 use Rattle.hp_proc.specs.MappedChunks.{LeavesChunk, MapsChunk}
 use Rattle.hp_proc.specs.NamesOfLines.{ChangesNames}
@@ -112,11 +112,16 @@ pub data Acts (count : ℕ) : Option ℕ → Option ℕ → List ℕ → Partici
   -- it looked at the segment value with a heap in its hand: for the memory of a chunk that it is to map, or since memory was refused
   looks_at_segs : (doer : ParticipantView) (heap : ℕ) (taken : SegsView)
       → Acts count (Some heap) (Some heap) [] doer doer [] (takes_segments taken ∷ gives_segments taken ∷ [])
+  -- it asked the segment value for a list for external memory, with a heap in its hand, and left it as it was
+  plans_range : (doer : ParticipantView) (heap addr len page : ℕ) (taken : SegsView)
+      → Acts count (Some heap) (Some heap) [] doer doer (RangePlanned addr len page (range_plan addr len page taken) ∷ [])
+      (takes_segments taken ∷ gives_segments taken ∷ [])
   -- memory came to the external heap in its hand, under the list that the segment value had for it; or went, and gave its list back
   claims : (doer : ParticipantView) (heap : ℕ) (chunk : Chunk) (taken : SegsView)
       → range_plan chunk.addr chunk.len chunk.page taken ≡ Ok chunk.list
       → Acts count (Some heap) (Some heap) [] doer (after_call doer)
-      (NamesChanged (OfHeaps (Range heap chunk.addr chunk.len chunk.page)) ∷ Called heap (call.Chunk chunk) gives.Done ∷ [])
+      (RangePlanned chunk.addr chunk.len chunk.page (Ok chunk.list) ∷ NamesChanged (OfHeaps (Range heap chunk.addr chunk.len chunk.page))
+      ∷ Called heap (call.Chunk chunk) gives.Done ∷ [])
       (takes_segments taken ∷ gives_segments (after_claim_range chunk.list chunk.addr chunk.len chunk.page chunk.socket taken) ∷ [])
   releases : (doer : ParticipantView) (heap : ℕ) (chunk : Chunk) (taken : SegsView)
       → Acts count (Some heap) (Some heap) [] doer (after_call doer)

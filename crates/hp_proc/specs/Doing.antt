@@ -1,5 +1,5 @@
 -- What a line does, as a tree of what comes next by what each deed gives; and what was done, as a trace through that tree.
-use Rattle.std.specs.Prelude.{◌≡◌, ℕ, List, [], ◌∷◌, Option, ⊤}
+use Rattle.std.specs.Prelude.{◌≡◌, ℕ, List, [], ◌∷◌, Option, Result, ⊤}
 use Rattle.hp_base.specs.declared.caught.Caught.{Caught}
 use Rattle.hp_base.specs.declared.chunk.Chunk.{Chunk}
 use Rattle.hp_base.specs.declared.row.Run.{Run}
@@ -9,6 +9,7 @@ use Rattle.hp_heap.specs.declared.entry.HeapCall.{HeapCall}
 use Rattle.hp_heap.specs.declared.entry.HeapAnswer.{HeapAnswer}
 use Rattle.hp_script.specs.declared.answer.Answer.{Answer}
 use Rattle.hp_proc.specs.SharedNames.{NamesChange, SharedNames}
+use Rattle.hp_segs.specs.declared.fault.RangeFault.{RangeFault}
 use Rattle.hp_serve.specs.declared.pages_asked.PagesAsked.{PagesAsked}
 
 -- statistics of a heap, and after how many entries of its history they are
@@ -34,14 +35,16 @@ pub data Deed : Type 0 where
   ChangeNames : NamesChange → Deed
   -- it looks at the external heap with that index
   SeeHeap : ℕ → Deed
+  -- it asks the segment value for a list for external memory, by address, length and page size
+  PlanRange : ℕ → ℕ → ℕ → Deed
   -- it maps the pages of a chunk
   MapChunk : Chunk → Deed
   -- it reads the statistics of the heap with that index, as somebody has published them
   ReadStats : ℕ → Deed
 
 -- what a deed gives: the heap's answer; the run that is granted, or none where the ask is refused; nothing; how many records the segment
--- value has; what the mapper made of the records; the names; nothing; the history of the heap, which leaves its state; what the mapper made
--- of the pages; the statistics
+-- value has; what the mapper made of the records; the names; nothing; the history of the heap, which leaves its state; the list, or why there is
+-- none; what the mapper made of the pages; the statistics
 abbrev pub Given : Deed → Type 0
 Given (Call heap call) = HeapAnswer
 Given (Ask asked) = Option Run
@@ -51,6 +54,7 @@ Given (CatchUp to) = Caught
 Given ReadNames = SharedNames
 Given (ChangeNames change) = ⊤
 Given (SeeHeap heap) = List Entry
+Given (PlanRange addr len page) = Result ℕ RangeFault
 Given (MapChunk chunk) = Caught
 Given (ReadStats heap) = Counted
 
@@ -71,6 +75,7 @@ pub data Done : Type 0 where
   NamesRead : SharedNames → Done
   NamesChanged : NamesChange → Done
   HeapSeen : ℕ → List Entry → Done
+  RangePlanned : ℕ → ℕ → ℕ → Result ℕ RangeFault → Done
   ChunkMapped : Chunk → Caught → Done
   StatsRead : ℕ → Counted → Done
 
@@ -84,6 +89,7 @@ gave (CatchUp to) caught = CaughtUp to caught
 gave ReadNames names = NamesRead names
 gave (ChangeNames change) none = NamesChanged change
 gave (SeeHeap heap) history = HeapSeen heap history
+gave (PlanRange addr len page) plan = RangePlanned addr len page plan
 gave (MapChunk chunk) caught = ChunkMapped chunk caught
 gave (ReadStats heap) counted = StatsRead heap counted
 

@@ -53,6 +53,10 @@ abbrev pub chunk_said : ChunkFault → Answer
 chunk_said chunk.NotFound = answer.NotFound
 chunk_said chunk.NoChunk = answer.NoChunk
 
+abbrev pub made_said : Result ℕ CreateFault → Option Answer
+made_said (Ok socket) = Some (answer.Socket socket)
+made_said (Err fault) = create_said fault
+
 -- how a line is answered that destroys a heap
 abbrev pub destroy_said : Result Unit DestroyFault → Answer
 destroy_said (Ok done) = answer.Done
@@ -61,16 +65,15 @@ destroy_said (Err destroy.NotFound) = answer.NotFound
 destroy_said (Err destroy.SocketHeap) = answer.SocketHeap
 destroy_said (Err (destroy.Busy chunks)) = answer.BusyChunks chunks
 
--- how a line is answered that brings memory; where memory ran out it is not
-abbrev pub add_said : Result Unit AddFault → Option Answer
-add_said (Ok done) = Some answer.Done
-add_said (Err add.BadName) = Some answer.BadName
-add_said (Err add.NotFound) = Some answer.NotFound
-add_said (Err add.SocketHeap) = Some answer.SocketHeap
-add_said (Err add.BadRange) = Some answer.BadRange
-add_said (Err (add.Overlaps row)) = Some (answer.Overlaps row.addr)
-add_said (Err add.NoSpace) = Some answer.NoSpace
-add_said (Err add.OutOfMemory) = None
+-- how a line is answered that brings no memory; where memory ran out it is not
+abbrev pub add_said : AddFault → Option Answer
+add_said add.BadName = Some answer.BadName
+add_said add.NotFound = Some answer.NotFound
+add_said add.SocketHeap = Some answer.SocketHeap
+add_said add.BadRange = Some answer.BadRange
+add_said (add.Overlaps row) = Some (answer.Overlaps row.addr)
+add_said add.NoSpace = Some answer.NoSpace
+add_said add.OutOfMemory = None
 
 module _ {E : Type 0} where
   abbrev pub IsSaid : Option Answer → Result Answer E → Type 0
@@ -80,18 +83,20 @@ module _ {E : Type 0} where
   IsSaid (Some said) (Err error) = ⊥
 
   -- as the call's outcome says, or not at all
-  abbrev pub IsAddSaid : Result Unit AddFault → Result Answer E → Type 0
-  IsAddSaid judged result = IsSaid (add_said judged) result
+  abbrev pub IsMadeSaid : Result ℕ CreateFault → Result Answer E → Type 0
+  IsMadeSaid judged result = IsSaid (made_said judged) result
 
--- how a line is answered that takes memory away
-abbrev pub remove_said : Result Unit RemoveFault → Answer
-remove_said (Ok done) = answer.Done
-remove_said (Err remove.BadName) = answer.BadName
-remove_said (Err remove.NotFound) = answer.NotFound
-remove_said (Err remove.SocketHeap) = answer.SocketHeap
-remove_said (Err remove.NoChunk) = answer.NoChunk
-remove_said (Err (remove.Busy addr)) = answer.BusyAddress addr
-remove_said (Err (remove.StillAttached participant)) = answer.Attached participant
+  abbrev pub IsAddSaid : AddFault → Result Answer E → Type 0
+  IsAddSaid fault result = IsSaid (add_said fault) result
+
+-- how a line is answered that takes no memory away
+abbrev pub remove_said : RemoveFault → Answer
+remove_said remove.BadName = answer.BadName
+remove_said remove.NotFound = answer.NotFound
+remove_said remove.SocketHeap = answer.SocketHeap
+remove_said remove.NoChunk = answer.NoChunk
+remove_said (remove.Busy addr) = answer.BusyAddress addr
+remove_said (remove.StillAttached participant) = answer.Attached participant
 
 -- how a line is answered that does not attach a chunk, or does not leave it
 abbrev pub attach_said : AttachFault → Answer
@@ -105,6 +110,10 @@ detach_said detach.NotFound = answer.NotFound
 detach_said detach.NoChunk = answer.NoChunk
 detach_said detach.NotAttached = answer.NotAttached
 detach_said (detach.InUse addr) = answer.InUse addr
+
+abbrev pub left_said : Result Unit DetachFault → Answer
+left_said (Ok done) = answer.Done
+left_said (Err fault) = detach_said fault
 
 -- a text names the external heap of that index
 pub record IsMeant (plain : PlainDirectory) (text : List ℕ) (index : ℕ) : Type 0 where

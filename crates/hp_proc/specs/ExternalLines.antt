@@ -1,11 +1,10 @@
 -- What the lines of external heaps do: the rules "External heaps" and "Chunks" of docs/HEAP.md and docs/TABLES.md.
-use Rattle.std.specs.Prelude.{ℕ, min, not, ◌==◌, List, [], ◌∷◌, filter, find, length, map, Option, Some, None, Result, Ok, Err, if◌then◌else◌}
+use Rattle.std.specs.Prelude.{ℕ, ◌-◌, ◌^◌, min, not, ◌==◌, List, [], ◌∷◌, filter, find, length, map, Option, Some, None, Result, Ok, Err, if◌then◌else◌}
 use Rattle.std.specs.List.{list_any, range_with_len, reduce}
 use Rattle.hp_base.specs.Flags.{has_bit}
 use Rattle.hp_base.specs.declared.caught.Caught.{Caught}
 use Rattle.hp_base.specs.declared.caught.Caught.TheVariants as caught
 use Rattle.hp_base.specs.declared.chunk.Chunk.{Chunk}
-use Rattle.hp_base.specs.declared.pool_line.PoolLine.{PoolLine}
 use Rattle.hp_heap.specs.Chunks.{chunk_at}
 use Rattle.hp_heap.specs.History.{replay}
 use Rattle.hp_heap.specs.PlainHeap.{PlainHeap, data_address, opening_heap}
@@ -18,10 +17,9 @@ use Rattle.hp_segs.specs.declared.fault.RangeFault.TheVariants as range
 use Rattle.hp_zone.specs.Directory.{PlainDirectory}
 use Rattle.hp_zone.specs.declared.name_change.NameChange.TheVariants.{Named, Range, RangeGone, Unnamed}
 use Rattle.hp_external.specs.Elements.{is_busy_in}
-use Rattle.hp_proc.specs.ClaimedMemory.{plan_in}
 use Rattle.hp_proc.specs.Doing.{Deed, Doing}
 use Rattle.hp_proc.specs.Heaps.{has_name}
-use Rattle.hp_proc.specs.SharedNames.{HeapMeant, NamesChange, SharedNames, heaps_in, is_short_name, next_index}
+use Rattle.hp_proc.specs.SharedNames.{HeapMeant, NamesChange, heaps_in, is_short_name, next_index}
 use Rattle.hp_proc.specs.declared.own_chunk.OwnChunk.{OwnChunk}
 use Rattle.hp_proc.specs.SharedNames.HeapMeant.{External, NoHeap, NoName, OfSocket}
 use Rattle.hp_proc.specs.SharedNames.NamesChange.{OfHeaps}
@@ -73,11 +71,11 @@ making_heap text plain =
     if not (is_short_name text) then Doing.Ended answer.BadName
     else (if list_any (has_name text) (heaps_in plain) then Doing.Ended answer.Exists else making text plain.next (next_index plain))
 
--- `unheap`: a heap without chunks loses its name
+-- `unheap`: a heap without chunks loses its name; their number is given up to the most that has 32 bits
 abbrev pub destroying : ℕ → PlainHeap → Doing
 destroying index heap =
     if length heap.chunks == 0 then changing (OfHeaps (Unnamed index)) (calling index call.Unname (Doing.Ended answer.Done))
-    else Doing.Ended (answer.BusyChunks (length heap.chunks))
+    else Doing.Ended (answer.BusyChunks (min (length heap.chunks) (2 ^ 32 - 1)))
 
 abbrev pub destroying_heap : HeapMeant → Doing
 destroying_heap = on_external (λ index socket. seeing_heap index (destroying index))
@@ -93,9 +91,12 @@ adding addr len page index socket (Err (range.Overlaps row)) = Doing.Ended (answ
 adding addr len page index socket (Err range.NoSpace) = Doing.Ended answer.NoSpace
 adding addr len page index socket (Err range.OutOfMemory) = Doing.Ended answer.NoSpace
 
-abbrev pub adding_memory : List PoolLine → SharedNames → ℕ → ℕ → ℕ → HeapMeant → Doing
-adding_memory pools names addr len page =
-    on_external (λ index socket. adding addr len page index socket (plan_in pools names addr len page))
+-- and the segment value says whether it gets one
+abbrev pub planning : ℕ → ℕ → ℕ → ℕ → ℕ → Doing
+planning addr len page index socket = Doing.Then (Deed.PlanRange addr len page) (adding addr len page index socket)
+
+abbrev pub adding_memory : ℕ → ℕ → ℕ → HeapMeant → Doing
+adding_memory addr len page = on_external (planning addr len page)
 
 -- `remove`: a chunk goes that is wholly free and that nobody has attached
 abbrev pub removing_unless : ℕ → ℕ → ℕ → Option ℕ → Option ℕ → Doing

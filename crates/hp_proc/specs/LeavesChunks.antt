@@ -1,23 +1,27 @@
 -- How a participant leaves chunks of a heap in its hand when it detaches: the rule "Lines" of docs/PARTICIPANTS.md.
-use Rattle.std.specs.Prelude.{◌≡◌, ℕ, ◌+◌, Bool, not, ◌&&◌, ◌==◌, List, [], ◌++◌, filter, Some}
-use Rattle.std.specs.List.{list_any}
+use Rattle.std.specs.Prelude.{◌≡◌, List, [], ◌∷◌, ◌++◌}
+use Rattle.hp_external.specs.Attaching.{Leaves}
 use Rattle.hp_heap.specs.History.{HeapView}
-use Rattle.hp_proc.specs.Acting.{Acts}
-use Rattle.hp_proc.specs.Courses.{calls_in}
-use Rattle.hp_proc.specs.Doing.{Done, Leads}
-use Rattle.hp_proc.specs.ExternalLines.{leaving_all}
-use Rattle.hp_proc.specs.Histories.{entries_for}
-use Rattle.hp_proc.specs.ParticipantView.{ParticipantView}
+use Rattle.hp_proc.specs.OwnChunks.{without_own_chunk}
+use Rattle.hp_proc.specs.ParticipantView.{ParticipantView, after_call, noting_chunks, with_party}
+use Rattle.hp_proc.specs.Progress.{caller_of}
 use Rattle.hp_proc.specs.declared.own_chunk.OwnChunk.{OwnChunk}
+use Rattle.hp_serve.specs.Party.{with_maps}
 
--- two notes are of one chunk
-abbrev pub is_chunk : OwnChunk → OwnChunk → Bool
-is_chunk chunk other = (chunk.heap == other.heap) && (chunk.addr == other.addr)
+-- a participant that notes one chunk less, has its table without that chunk's rows, and has made one call more
+abbrev pub having_left : OwnChunk → ParticipantView → ParticipantView → ParticipantView
+having_left chunk new old =
+    noting_chunks (without_own_chunk chunk old.context.standing.chunks) (after_call (with_party (with_maps new.party.maps old.party) old))
 
--- with a heap in hand it left chunks of it that it had attached, one after another, and notes them no longer
-pub record LeavesInHand (chunks : List OwnChunk) (old new : ParticipantView) (heap heap' : HeapView) : Type 0 where
-  pub trace : List Done
-  pub leads : (others : List OwnChunk) → Leads (leaving_all (chunks ++ others)) trace (leaving_all others)
-  pub acts : (count : ℕ) → Acts count (Some heap.plain.index) (Some heap.plain.index) [] old new trace []
-  pub noted : new.context.standing.chunks ≡ filter (λ other. not (list_any (is_chunk other) chunks)) old.context.standing.chunks
-  pub made : heap'.history ≡ heap.history ++ entries_for old.party.me heap.plain.index (old.context.calls + 1) (calls_in trace)
+-- with a heap in hand it left a chunk of it that it had attached, and notes it no longer
+pub record LeavesNoted (chunk : OwnChunk) (old new : ParticipantView) (heap heap' : HeapView) : Type 0 where
+  pub its : chunk.heap ≡ heap.plain.index
+  pub leaves : Leaves (caller_of old) chunk.addr chunk.len heap heap' old.party.maps new.party.maps
+  pub noted : new ≡ having_left chunk new old
+
+-- and so it left several, one after another
+pub data LeavesInHand : List OwnChunk → ParticipantView → ParticipantView → HeapView → HeapView → Type 0 where
+  none : (doer : ParticipantView) (heap : HeapView) → LeavesInHand [] doer doer heap heap
+  more : (chunks : List OwnChunk) (chunk : OwnChunk) (old mid new : ParticipantView) (heap between after : HeapView)
+      → LeavesInHand chunks old mid heap between → LeavesNoted chunk mid new between after
+      → LeavesInHand (chunks ++ chunk ∷ []) old new heap after

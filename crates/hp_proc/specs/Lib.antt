@@ -45,3 +45,4 @@ pub mod LockOrder
 pub mod NamesOfLines
 pub mod MappedChunks
 pub mod LeavesChunks
+pub mod HeldLines

@@ -198,8 +198,15 @@ pub record HasRoom (calls : ℕ) (heap : HeapView) (doer : ParticipantView) : Ty
   pub spare : calls ≤ heap.spare
   pub counted : doer.context.calls + calls < 2 ^ 64
 
+-- what it knows for the names stays: what they speak of, of each heap, and the external memory that is claimed; and by its steps it has them in
+-- hand, or has not, as before
+pub record KnowsAsBefore (me : ℕ) (old new : HallState) : Type 0 where
+  pub naming : (heap : ℕ) → (new.part me heap).naming ≡ (old.part me heap).naming
+  pub claims : (heap : ℕ) → (new.part me heap).claims ≡ (old.part me heap).claims
+  pub told : has_names (new.done me) ≡ has_names (old.done me)
+
 -- it did something with the heap in its hand: it has that heap in hand still, with its own marks, it is the same one, what it knows is as it was
--- but for the number of its calls, its asks are settled, its table is tied and has the heap's pages, and the slots stay
+-- but for the number of its calls, also for the names, its asks are settled, its table is tied and has the heap's pages, and the slots stay
 pub record KeepsHeld (me : ℕ) (old new : ParticipantView) (before behind : HeapView) (from to : HallState) : Type 0 where
   pub in_hand : IsInHand to.taken (moment me new to) behind
   pub index : behind.plain.index ≡ before.plain.index
@@ -208,6 +215,7 @@ pub record KeepsHeld (me : ℕ) (old new : ParticipantView) (before behind : Hea
   pub context : new.context ≡ with_calls new.context.calls old.context
   pub settled : AreSettled (moment me new to)
   pub mapped : HasMapped me to
+  pub knows : KnowsAsBefore me from to
   pub remains : RemainsIn me old.party new.party from to
 
 -- what its own table is known by stays
@@ -288,21 +296,22 @@ pub record HasReadAll (me : ℕ) (old new : ParticipantView) (found : List Searc
   pub read : HasRead me old new names from to
   pub found_are : found ≡ map place_named (heaps_in names.heaps.plain)
 
--- it knows which heaps its allocation tries, for which it read the names where a heap is named, and else did nothing
-abbrev pub ChoosesPlaces : ℕ → ParticipantView → ParticipantView → Options → List SearchedHeap → HallState → HallState → Type 0
-ChoosesPlaces me old new options places from to = ChoosesBy me old new options.heap options.socket places from to
-
-abbrev pub ChoosesBy : ℕ → ParticipantView → ParticipantView → Option Part → SocketChoice → List SearchedHeap → HallState → HallState → Type 0
-ChoosesBy me old new (Some name) choice places from to =
+-- it knows which heaps its allocation tries, for which it read the names where a heap is named, and else nothing was done, so that all is the same
+abbrev pub ChoosesBy : ℕ → ParticipantView → ParticipantView → Option Part → SocketChoice → List SearchedHeap → Type 0 → HallState → HallState
+    → Type 0
+ChoosesBy me old new (Some name) choice places same from to =
     (found : Option SearchedHeap) × (places ≡ option_to_list found) × HasReadNames me old new name.text found from to
-ChoosesBy me old new None choice places from to = (new ≡ old) × (to ≡ from)
+ChoosesBy me old new None choice places same from to = (new ≡ old) × same
     × (places ≡ map place_named (heaps_for old.party.socket (socket_heaps old.context.pools) None choice))
 
--- it knows in which heaps it looks for what a line made: the one in which its own line put it, or, for which it read the names, all that have a
--- name
-abbrev pub FindsPlaces : ℕ → ParticipantView → ParticipantView → Maker → List SearchedHeap → HallState → HallState → Type 0
-FindsPlaces me old new maker places from to =
+abbrev pub ChoosesPlaces : ℕ → ParticipantView → ParticipantView → Options → List SearchedHeap → Type 0 → HallState → HallState → Type 0
+ChoosesPlaces me old new options places same from to = ChoosesBy me old new options.heap options.socket places same from to
+
+-- it knows in which heaps it looks for what a line made: the one in which its own line put it, for which nothing was done, or, for which it read
+-- the names, all that have a name
+abbrev pub FindsPlaces : ℕ → ParticipantView → ParticipantView → Maker → List SearchedHeap → Type 0 → HallState → HallState → Type 0
+FindsPlaces me old new maker places same from to =
     if is_own_maker me maker
-    then (new ≡ old) × (to ≡ from)
+    then (new ≡ old) × same
     × (places ≡ option_to_list (heap_of_element old.context.pools old.context.standing.elements (Some maker)))
     else HasReadAll me old new places from to

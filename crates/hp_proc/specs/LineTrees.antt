@@ -12,10 +12,9 @@ use Rattle.hp_script.specs.declared.options.Options.{Options}
 use Rattle.hp_heap.specs.Chunks.{chunk_at}
 use Rattle.hp_heap.specs.PlainHeap.{PlainHeap}
 use Rattle.hp_base.specs.declared.pool_line.PoolLine.{PoolLine}
-use Rattle.hp_proc.specs.ClaimedMemory.{plan_in}
 use Rattle.hp_proc.specs.Courses.{searched_heap_at}
 use Rattle.hp_proc.specs.Doing.{Doing}
-use Rattle.hp_proc.specs.ExternalLines.{adding, adding_memory, destroying, destroying_heap, leaving_all, leaving_chunk, leaving_memory, making, making_heap, mapping, mapping_memory, removing, removing_memory}
+use Rattle.hp_proc.specs.ExternalLines.{adding_memory, destroying, destroying_heap, leaving_all, leaving_chunk, leaving_memory, making, making_heap, mapping, mapping_memory, planning, removing, removing_memory}
 use Rattle.hp_proc.specs.Freeing.{freeing, if_sized, looking, resize_refusal, resizing_to}
 use Rattle.hp_proc.specs.Heaps.{has_name}
 use Rattle.hp_proc.specs.Lines.{Facts, Maker, allocating, allocating_by, attaching, by_heaps, dumping, if_attached, is_own_maker, places_of, reading_names, reading_stats, tag_made, tag_of}
@@ -30,7 +29,7 @@ abbrev pub doing_named : ℕ → List PoolLine → Act → SharedNames → Doing
 doing_named who pools (act.Heap name) names = making_heap name.text (directory_in pools names)
 doing_named who pools (act.Unheap name) names = destroying_heap (meant_by name.text (directory_in pools names))
 doing_named who pools (act.Add heap addr len page) names =
-    adding_memory pools names addr len page (meant_by heap.text (directory_in pools names))
+    adding_memory addr len page (meant_by heap.text (directory_in pools names))
 doing_named who pools (act.Remove heap addr len) names = removing_memory addr len (meant_by heap.text (directory_in pools names))
 doing_named who pools (act.Map heap addr len) names = mapping_memory who addr len (meant_in heap.text (directory_in pools names))
 doing_named who pools (act.Unmap heap addr len) names = leaving_memory who addr len (meant_in heap.text (directory_in pools names))
@@ -40,8 +39,7 @@ doing_named who pools _ names = Doing.Ended answer.NotFound
 abbrev pub doing_held : ℕ → List PoolLine → Act → SharedNames → PlainHeap → Doing
 doing_held who pools (act.Heap name) names heap = making name.text (directory_in pools names).next (Some heap.index)
 doing_held who pools (act.Unheap name) names heap = destroying heap.index heap
-doing_held who pools (act.Add name addr len page) names heap =
-    adding addr len page heap.index heap.socket (plan_in pools names addr len page)
+doing_held who pools (act.Add name addr len page) names heap = planning addr len page heap.index heap.socket
 doing_held who pools (act.Remove name addr len) names heap = removing heap.index addr len heap (chunk_at addr len heap)
 doing_held who pools (act.Map name addr len) names heap = mapping who heap.index addr len (chunk_at addr len heap)
 doing_held who pools (act.Unmap name addr len) names heap = leaving_chunk who heap.index addr len heap (chunk_at addr len heap)

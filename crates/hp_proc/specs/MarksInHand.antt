@@ -8,13 +8,15 @@ use Rattle.hp_hall.specs.Values.{IsSoundKept}
 use Rattle.hp_hall.specs.declared.kept.Kept.TheVariants.{Names}
 use Rattle.hp_hall.specs.declared.slot.TheConstants.{NAMES_SLOT}
 use Rattle.hp_heap.specs.History.{HeapView}
+use Rattle.hp_proc.specs.Heaps.{sockets_of}
 use Rattle.hp_proc.specs.HeldMarks.{HoldsMarked}
 use Rattle.hp_proc.specs.NamesInHand.{with_naming}
 use Rattle.hp_proc.specs.ParticipantView.{ParticipantView}
 use Rattle.hp_serve.specs.Party.{IsSameParty}
 use Rattle.hp_zone.specs.declared.names.Names.{Names as NamesView}
 
--- it has the names and such a heap in hand, as its steps tell; they agree but for what they say of that heap and of its memory
+-- it has the names and such a heap in hand, as its steps tell; they agree but for what they say of that heap and of its memory, and
+-- they opened with the heaps of the pools' sockets
 pub record HoldsNamedMarked (me : ℕ) (doer : ParticipantView) (names : NamesView) (heap : HeapView) (state : HallState) : Type 0 where
   pub holds : HoldsMarked me doer heap state
   pub told : has_names (state.done me) ≡ true
@@ -23,6 +25,7 @@ pub record HoldsNamedMarked (me : ℕ) (doer : ParticipantView) (names : NamesVi
   pub sound : IsSoundKept (Names names)
   pub goes_on : NamesGoOn (seen_of_names was) (seen_of_names names)
   pub agrees : AgreeWith (with_naming heap (state.part me)) names
+  pub sockets : names.heaps.sockets ≡ sockets_of doer.context.pools
 
 -- it did something with them, and has them in hand still; it is the same one of the same workload, and nobody else did anything
 pub record KeepsMarked (me : ℕ) (old new : ParticipantView) (names : NamesView) (heap heap' : HeapView) (from to : HallState) : Type 0 where
@@ -32,17 +35,3 @@ pub record KeepsMarked (me : ℕ) (old new : ParticipantView) (names : NamesView
   pub same : IsSameParty old.party new.party
   pub pools : new.context.pools ≡ old.context.pools
   pub others : OthersStay me from to
-
--- with a heap in hand it did what makes no step in a hall: it is the same one of the same workload, the heap is the one that it was, and whatever
--- is known of it in a hall is so still
-pub record StaysInHand (old new : ParticipantView) (heap heap' : HeapView) : Type 0 where
-  pub same : IsSameParty old.party new.party
-  pub pools : new.context.pools ≡ old.context.pools
-  pub index : heap'.plain.index ≡ heap.plain.index
-  pub its_socket : heap'.plain.serves ≡ heap.plain.serves
-  pub holds : (state : HallState) → HoldsMarked old.party.me old heap state → HoldsMarked old.party.me new heap' state
-
--- and so it did with the names in hand too
-pub record StaysNamed (old new : ParticipantView) (names names' : NamesView) (heap heap' : HeapView) : Type 0 where
-  pub stays : StaysInHand old new heap heap'
-  pub named : (state : HallState) → HoldsNamedMarked old.party.me old names heap state → HoldsNamedMarked old.party.me new names' heap' state

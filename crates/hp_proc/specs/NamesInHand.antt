@@ -1,5 +1,6 @@
 -- A participant that has the names in hand, alone and beside a heap: the lock order of docs/PARTICIPANTS.md.
-use Rattle.std.specs.Prelude.{◌≡◌, ℕ, ◌+◌, ◌==◌, List, [], ◌∷◌, ◌++◌, Ok, Some, None, true, if◌then◌else◌}
+use Rattle.std.specs.Prelude.{◌≡◌, ℕ, ◌==◌, List, [], ◌∷◌, Ok, Some, None, true, if◌then◌else◌}
+use Rattle.std.specs.Option.{option_map}
 use Rattle.hp_hall.specs.Giving.{IsGiveOf}
 use Rattle.hp_hall.specs.HallState.{Did, HallState, OthersStay, SlotsStayBut, known_to}
 use Rattle.hp_hall.specs.Holding.{AgreeWith, HeapPart}
@@ -10,12 +11,9 @@ use Rattle.hp_hall.specs.Values.{IsSoundKept}
 use Rattle.hp_hall.specs.declared.kept.Kept.TheVariants.{Names}
 use Rattle.hp_hall.specs.declared.slot.TheConstants.{NAMES_SLOT}
 use Rattle.hp_heap.specs.History.{HeapView}
-use Rattle.hp_proc.specs.Acting.{Acts}
-use Rattle.hp_proc.specs.Courses.{calls_in}
-use Rattle.hp_proc.specs.Doing.{Doing, Done, Leads}
+use Rattle.hp_proc.specs.Doing.{Doing}
 use Rattle.hp_proc.specs.ExternalAnswers.{IsHeapMeant}
-use Rattle.hp_proc.specs.Histories.{entries_for}
-use Rattle.hp_proc.specs.Handing.{shared_of}
+use Rattle.hp_proc.specs.Heaps.{sockets_of}
 use Rattle.hp_proc.specs.LineInHall.{DoesHeld, DoesHere, DoesOnceHere, HaltsHeld, HaltsHere, HoldsIn, IsReadyBut}
 use Rattle.hp_proc.specs.NamesOfLines.{ChangesNames}
 use Rattle.hp_proc.specs.ParticipantView.{ParticipantView, with_calls}
@@ -28,13 +26,13 @@ use Rattle.hp_serve.specs.Serving.{gives_segments, takes_segments}
 use Rattle.hp_zone.specs.Directory.{PlainDirectory}
 use Rattle.hp_zone.specs.declared.names.Names.{Names as NamesView}
 
--- parts with what the names speak of a heap in hand, as it is by now
+-- parts with what the names speak of a heap in hand, as it is by now, where that is known
 abbrev pub with_naming : HeapView → (ℕ → HeapPart) → ℕ → HeapPart
 with_naming heap parts index =
-    if index == heap.plain.index then record (parts index) { naming = Some (naming_of heap.plain) } else parts index
+    if index == heap.plain.index then record (parts index) { naming = option_map (λ naming. naming_of heap.plain) (parts index).naming } else parts index
 
 -- it has the names in hand, as they are by now: they were taken, as its steps tell, they are sound, they go on from the taken ones, and all other
--- slots are free
+-- slots are free; they opened with the heaps of the pools' sockets
 pub record IsReadyNamed (me : ℕ) (doer : ParticipantView) (names : NamesView) (state : HallState) : Type 0 where
   pub but : IsReadyBut NAMES_SLOT me doer state
   pub told : has_names (state.done me) ≡ true
@@ -43,6 +41,7 @@ pub record IsReadyNamed (me : ℕ) (doer : ParticipantView) (names : NamesView) 
   pub sound : IsSoundKept (Names names)
   pub goes_on : NamesGoOn (seen_of_names was) (seen_of_names names)
   pub agrees : AgreeWith (state.part me) names
+  pub sockets : names.heaps.sockets ≡ sockets_of doer.context.pools
 
 -- it has the names and a heap in hand; they agree but for what they say of that heap and of its memory
 pub record HoldsNamed (me : ℕ) (doer : ParticipantView) (names : NamesView) (heap : HeapView) (state : HallState) : Type 0 where
@@ -53,6 +52,7 @@ pub record HoldsNamed (me : ℕ) (doer : ParticipantView) (names : NamesView) (h
   pub sound : IsSoundKept (Names names)
   pub goes_on : NamesGoOn (seen_of_names was) (seen_of_names names)
   pub agrees : AgreeWith (with_naming heap (state.part me)) names
+  pub sockets : names.heaps.sockets ≡ sockets_of doer.context.pools
 
 -- names that agreed with what it knew agree with what it knows
 abbrev pub AgreesStill : ℕ → HallState → HallState → Type 0
@@ -128,15 +128,6 @@ pub record KeepsNamed (me : ℕ) (old new : ParticipantView) (names : NamesView)
   pub same : IsSameParty old.party new.party
   pub pools : new.context.pools ≡ old.context.pools
   pub others : OthersStay me from to
-
--- with the names and a heap in hand it did what makes no step in a hall: its trace leads on, the names changed as the trace says, and the heap has
--- its calls
-pub record DoesInHand (old new : ParticipantView) (before after : NamesView) (heap heap' : HeapView) (doing rest : Doing) : Type 0 where
-  pub trace : List Done
-  pub leads : Leads doing trace rest
-  pub acts : (count : ℕ) → Acts count (Some heap.plain.index) (Some heap.plain.index) [] old new trace []
-  pub names : ChangesNames before after trace
-  pub made : heap'.history ≡ heap.history ++ entries_for old.party.me heap.plain.index (old.context.calls + 1) (calls_in trace)
 
 -- nothing changed
 pub record StandsStill (old new : ParticipantView) (before after : NamesView) (heap heap' : HeapView) : Type 0 where

@@ -1,5 +1,5 @@
 -- What a line has to do with the names: it takes them once at most, and gives them back as its changes leave them.
-use Rattle.std.specs.Prelude.{◌≡◌, List, [], ◌∷◌, filter_map, fold, Option, Some, None, ⊤, ⊥}
+use Rattle.std.specs.Prelude.{◌≡◌, List, [], ◌∷◌, filter_map, fold, Option, Some, None, ⊤}
 use Rattle.hp_hall.specs.Mail.{MailStep, Gives, Takes}
 use Rattle.hp_hall.specs.declared.kept.Kept.TheVariants.{Names}
 use Rattle.hp_hall.specs.declared.slot.TheConstants.{NAMES_SLOT}
@@ -30,11 +30,12 @@ abbrev pub names_after : SharedNames → List Done → SharedNames
 names_after names trace = fold names_with names (filter_map change_made trace)
 
 -- What the names that a participant has in hand have to do with what it did: a line takes them once at most. Where it does, it is handed what
--- it took, and gives back what its changes leave of that.
+-- it took, before it does anything else, and gives back what its changes leave of that.
 pub data NamesOfLine (trace : List Done) (steps : List MailStep) : Type 0 where
   none : steps_of_names steps ≡ [] → names_read trace ≡ [] → filter_map change_made trace ≡ [] → NamesOfLine trace steps
-  once : (taken given : NamesView) → steps_of_names steps ≡ Takes NAMES_SLOT (Names taken) ∷ Gives NAMES_SLOT (Names given) ∷ []
-      → names_read trace ≡ shared_of taken ∷ [] → shared_of given ≡ names_after (shared_of taken) trace → NamesOfLine trace steps
+  once : (taken given : NamesView) (rest : List Done)
+      → steps_of_names steps ≡ Takes NAMES_SLOT (Names taken) ∷ Gives NAMES_SLOT (Names given) ∷ [] → trace ≡ NamesRead (shared_of taken) ∷ rest
+      → names_read rest ≡ [] → shared_of given ≡ names_after (shared_of taken) rest → NamesOfLine trace steps
 
 -- a trace tells the coordinator of no run that was given up
 abbrev pub IsUntold : Done → Type 0

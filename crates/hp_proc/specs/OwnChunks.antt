@@ -1,5 +1,5 @@
 -- The chunks that a participant has attached, as it notes them: by heap and by address.
-use Rattle.std.specs.Prelude.{◌≡◌, ℕ, ◌<◌, Bool, not, ◌&&◌, ◌||◌, ◌==◌, nat_lt, List, [], ◌∷◌, ◌++◌, filter, map, Option, Some, None, Contains, true}
+use Rattle.std.specs.Prelude.{◌≡◌, ℕ, ◌<◌, Bool, not, ◌&&◌, ◌||◌, ◌==◌, nat_lt, true, List, [], ◌∷◌, ◌++◌, filter, map, Option, Some, None, Contains}
 use Rattle.std.specs.List.{All}
 use Rattle.std.specs.List.Sorted.{IsSortedBy}
 use Rattle.hp_base.specs.declared.chunk.Chunk.{Chunk}
@@ -36,7 +36,7 @@ chunks_beside heap chunks = filter (λ chunk. not (chunk.heap == heap)) chunks
 -- they lie in heaps, and each stands before the next
 pub record AreOwnChunks (chunks : List OwnChunk) : Type 0 where
   pub few : All (λ chunk. chunk.heap < MAX_HEAPS) chunks
-  pub rising : IsSortedBy (λ first second. is_before first second ≡ true) chunks
+  pub rising : IsSortedBy is_before chunks
 
 -- those of that heap stand first
 abbrev pub AreFirstOf : ℕ → List OwnChunk → Type 0

@@ -127,6 +127,13 @@ impl<'p, M: Mapper> Server<'p, M> {
         self.me
     }
 
+    /// Its number is one of 0 to 15. It does nothing. Own.
+    pub fn declared(&self)
+        ensures { self.now.me < MAX_PARTICIPANTS }
+    {
+        let _ = &self.coordinator;
+    }
+
     /// Its own NUMA socket. Own.
     pub fn socket(&self) -> u32
         ensures { result ≡ self.now.socket }

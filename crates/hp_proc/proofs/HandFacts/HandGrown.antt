@@ -1,9 +1,13 @@
 -- A participant asked for pages for the heap in its hand, and the heap took in what was granted.
-use Rattle.std.proofs.Common.{◌≡◌, ◌≢◌, ◌∙◌, ℕ, ◌+◌, ◌≤◌, Bool, true, false, List, [], ◌∷◌, Option, Some, None, IfNone, IfSome, IsSome, refl, ap, sym, subst, arith}
+use Rattle.std.proofs.Common.{◌≡◌, ◌≢◌, ◌∙◌, ℕ, ◌+◌, ◌≤◌, Bool, true, false, List, [], ◌∷◌, Option, Some, None, IfNone, IfSome, IsSome, refl, ap, sym, subst, ⊎_elim, arith}
+use Rattle.std.proofs.lemmas.Bool.{cases_eq}
 use Rattle.hp_base.specs.declared.row.Run.{Run}
 use Rattle.hp_base.specs.declared.tag.Tag.{Tag}
 use Rattle.hp_hall.specs.HallState.{Did, HallState, HasMapped}
 use Rattle.hp_hall.specs.Mail.{MailStep}
+use Rattle.hp_hall.specs.Naming.{naming_of}
+use Rattle.hp_hall.specs.Telling.{has_names}
+use Rattle.hp_hall.proofs.NamesLeft.{call_leaves}
 use Rattle.hp_hall.proofs.HallStates.{did_same, did_then}
 use Rattle.hp_heap.specs.Allowed.{IsAllowed}
 use Rattle.hp_heap.specs.History.{HeapView, IsCall}
@@ -14,7 +18,7 @@ use Rattle.hp_proc.specs.Contexts.{Context}
 use Rattle.hp_hall.specs.Holding.{HeapPart}
 use Rattle.hp_proc.specs.Doing.{Deed, Doing}
 use Rattle.hp_proc.specs.Halting.{ActsOn, Halts}
-use Rattle.hp_proc.specs.LineInHall.{HoldsIn, KeepsHeld, did_in, moment_with}
+use Rattle.hp_proc.specs.LineInHall.{HoldsIn, KeepsHeld, KnowsAsBefore, did_in, moment_with}
 use Rattle.hp_proc.specs.ParticipantView.{ParticipantView, after_call, with_party}
 use Rattle.hp_proc.specs.Progress.{Does, IsInHand, caller_of, in_hand, moment_of}
 use Rattle.hp_proc.specs.Denying.{denials_of}
@@ -30,6 +34,7 @@ use Rattle.hp_proc.proofs.HandFacts.HandAsked.{asked_entries, asked_serves, can_
 use Rattle.hp_proc.proofs.HandFacts.HandCalls.{call_index, call_serves, does_call}
 use Rattle.hp_proc.proofs.HandFacts.Holds.{knew_called, knew_same, remains_called}
 use Rattle.hp_proc.proofs.Joining.{does_same, does_then, goes_as}
+use Rattle.hp_proc.proofs.WaitsAside.{ask_on_aside, hands_aside}
 
 -- by the run that was granted a heap grew, or it did not
 abbrev pub GrewBy : Option Run → Bool → HeapView → HeapView → ParticipantView → ParticipantView → Type 0
@@ -44,9 +49,23 @@ pub grew_by : (run : Option Run) (granted : Bool) (heap next : HeapView) (after 
 grew_by None granted heap next after last none some = none
 grew_by (Some run) granted heap next after last none some = some
 
+-- by an ask it has the names in hand, or has not, as before
+pub told_asked : (doer after : ParticipantView) (a b : HallState) (asked : PagesAsked) (run : Option Run) (stopped : Bool)
+    → ((steps : List MailStep) × Did doer.party.me steps a b
+    × DoesAskOn (denials_of doer.context.standing) a.count doer.party after.party asked steps run stopped)
+    → has_names (b.done doer.party.me) ≡ has_names (a.done doer.party.me)
+told_asked doer after a b asked run stopped did =
+    hands_aside did.0 (ask_on_aside (denials_of doer.context.standing) a.count doer.party after.party asked did.0 run stopped did.2) did.1
+
+pub told_unasked : (me : ℕ) (old new : Party) (a b : HallState) → AsksNothing me old new a b → has_names (b.done me) ≡ has_names (a.done me)
+told_unasked me old new a b nothing =
+    let segs = nothing.armed.did.0 in
+    hands_aside (takes_segments segs ∷ gives_segments segs ∷ []) (refl, refl, tt, (refl, refl, tt, refl)) nothing.armed.did.1
+
 module _ (doer after : ParticipantView) (a b : HallState) (heap : HeapView) (asked : PagesAsked) (holds : HoldsIn doer.party.me doer heap a)
     (its : asked.heap ≡ heap.plain.index) (known : after.context ≡ doer.context) (remains : RemainsIn doer.party.me doer.party after.party a b)
-    (settled : HasSettledAsks (b.part doer.party.me) (b.heard doer.party.me)) (mapped : HasMapped doer.party.me b) where
+    (settled : HasSettledAsks (b.part doer.party.me) (b.heard doer.party.me)) (mapped : HasMapped doer.party.me b)
+    (told : has_names (b.done doer.party.me) ≡ has_names (a.done doer.party.me)) where
   abbrev me : ℕ
   me = doer.party.me
 
@@ -61,6 +80,7 @@ module _ (doer after : ParticipantView) (a b : HallState) (heap : HeapView) (ask
     context = knew_same doer.context after.context known;
     settled = settled;
     mapped = mapped;
+    knows = record { naming = λ index. (held index).naming; claims = λ index. (held index).claims; told = told };
     remains = remains;
   }
 
@@ -94,6 +114,17 @@ module _ (doer after : ParticipantView) (a b : HallState) (heap : HeapView) (ask
         b.taken remains.slots.taken holds.in_hand
         (λ index. record { entries = refl; marked = refl; serves = refl; told = refl; naming = refl; claims = refl; holding = refl })
 
+    knows_grown : (run : Run) → GrowsHeld asked.heap (Some run) (a.part me asked.heap) (b.part me asked.heap) → KnowsAsBefore me a b
+    knows_grown run grows = record {
+      naming = λ index.
+          ⊎_elim (λ (here : index ≡ asked.heap). subst (λ (at : ℕ). (b.part me at).naming ≡ (a.part me at).naming) (sym here) grows.naming)
+          (λ (apart : index ≢ asked.heap). (others index apart).naming) (cases_eq index asked.heap);
+      claims = λ index.
+          ⊎_elim (λ (here : index ≡ asked.heap). subst (λ (at : ℕ). (b.part me at).claims ≡ (a.part me at).claims) (sym here) grows.claims)
+          (λ (apart : index ≢ asked.heap). (others index apart).claims) (cases_eq index asked.heap);
+      told = told;
+    }
+
     keeps_brought : (run : Run) → GrowsHeld asked.heap (Some run) (a.part me asked.heap) (b.part me asked.heap) → last ≡ after_call after
         → IsCall (caller_of after) (call.Grow run) gives.Done heap next → KeepsHeld me doer last heap next a b
     keeps_brought run grows counted step = record {
@@ -105,6 +136,7 @@ module _ (doer after : ParticipantView) (a b : HallState) (heap : HeapView) (ask
       context = knew_called doer after last known counted;
       settled = settled;
       mapped = mapped;
+      knows = knows_grown run grows;
       remains = remains_called after last remains counted;
     }
 
@@ -116,6 +148,12 @@ module _ (doer after : ParticipantView) (a b : HallState) (heap : HeapView) (ask
         (subst (λ (last : ParticipantView). KeepsHeld me doer last heap heap a b) (sym grew.2)
         (keeps_asked (none_asked asked.heap (a.part me) (b.part me) others grows)))
     keeps_grown (Some run) granted grows grew = keeps_brought run grows grew.1 grew.2
+
+    -- and what the names speak of, of that, is as it was
+    pub says_grown : (run : Option Run) (granted : Bool) → GrewBy run granted heap next after last → naming_of next.plain ≡ naming_of heap.plain
+    says_grown None granted grew = ap (λ (heap : HeapView). naming_of heap.plain) grew.1
+    says_grown (Some run) granted grew =
+        (call_leaves (caller_of after) (call.Grow run) gives.Done heap next grew.2 holds.in_hand.sound.tiled tt).naming
 
     -- where none was, heap and calls are as they were
     pub passed_by : (run : Option Run) (granted : Bool) → GrewBy run granted heap next after last → granted ≡ false

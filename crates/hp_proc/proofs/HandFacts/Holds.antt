@@ -1,10 +1,15 @@
 -- A participant with a heap in hand, over what calls leave.
-use Rattle.std.proofs.Common.{◌≡◌, ◌+◌, ◌++◌, ◌∙◌, ℕ, Bool, List, [], map, refl, sym, ap, subst, arith}
+use Rattle.std.proofs.Common.{◌≡◌, ◌≢◌, ◌+◌, ◌<◌, ◌≤◌, ◌++◌, ◌∙◌, ℕ, Bool, List, [], map, refl, sym, ap, subst, ⊎_elim, arith}
+use Rattle.std.proofs.lemmas.Bool.{cases_eq}
+use Rattle.hp_base.specs.declared.limits.TheConstants.{MAX_HEAPS}
 use Rattle.hp_hall.specs.HallState.{HallState, HasMapped, MayServe, OthersStay, SlotsStay, SlotsStayBut}
-use Rattle.hp_hall.specs.Holding.{HeapPart}
-use Rattle.hp_hall.specs.Naming.{IsBesideNames, marked_by}
+use Rattle.hp_hall.specs.Holding.{AgreeWith, HeapPart}
+use Rattle.hp_hall.specs.Naming.{IsBesideNames, marked_by, naming_of}
+use Rattle.hp_hall.specs.declared.slot.TheConstants.{NAMES_SLOT}
 use Rattle.hp_hall.proofs.HallStates.{did_then, later_same, may_still, others_same, slots_same}
-use Rattle.hp_heap.specs.History.{HeapView, IsCall}
+use Rattle.hp_heap.specs.History.{HeapView, IsCall, SameButSpare}
+use Rattle.hp_heap.specs.PlainHeap.{PlainHeap}
+use Rattle.hp_zone.specs.declared.names.Names.{Names as NamesView}
 use Rattle.hp_heap.specs.HistoryLaws.{run_cut, run_grown}
 use Rattle.hp_heap.specs.declared.entry.HeapAnswer.{HeapAnswer}
 use Rattle.hp_heap.specs.declared.entry.HeapCall.{HeapCall}
@@ -15,16 +20,19 @@ use Rattle.hp_proc.specs.Doing.{Doing}
 use Rattle.hp_proc.specs.Heaps.{sockets_of}
 use Rattle.hp_proc.specs.HeldMarks.{HasMarksOf, IsTiedWith}
 use Rattle.hp_proc.specs.LineInHall.{
-  AreFreeBut,
+  AreFreeBesideNames,
   ChangesRoster,
   HasCalled,
+  HasCalledBeside,
   HasRoom,
   HoldsIn,
+  IsBesideTheNames,
   IsFreeAt,
-  IsIdleIn,
   IsReadyAgain,
+  IsReadyBut,
   IsReadyIn,
   KeepsHeld,
+  KnowsAsBefore,
   TableStays,
   did_in,
   moment,
@@ -32,14 +40,16 @@ use Rattle.hp_proc.specs.LineInHall.{
 use Rattle.hp_serve.specs.InHall.{CanServe, IsTiedIn, RemainsIn, StaysIn, marked_in}
 use Rattle.hp_serve.specs.Party.{IsSameParty, Party}
 use Rattle.hp_stats.specs.StatViews.{PenView}
+use Rattle.hp_proc.specs.NamesInHand.{KeepsAgreed, with_naming}
 use Rattle.hp_proc.specs.OwnChunks.{AreMarkedAs, chunks_of, own_chunk}
 use Rattle.hp_proc.specs.ParticipantView.{ParticipantView, after_call, with_calls, with_standing}
 use Rattle.hp_proc.specs.Progress.{AreSettled, Does, IsInHand, IsTakenWith, MayDo, Moment, caller_of}
 use Rattle.hp_proc.proofs.ChunksLeft.{IsBesideChunks, call_marks}
-use Rattle.hp_proc.proofs.HandFacts.HandCalls.{call_index, call_serves, hand_stays}
+use Rattle.hp_proc.proofs.HandFacts.BesideNames.{held_agrees, knows_same, knows_then, names_but, names_then}
+use Rattle.hp_proc.proofs.HandFacts.HandCalls.{call_index, call_serves, hand_spared, hand_stays}
 use Rattle.hp_proc.proofs.HandFacts.HandGiven.{ready_still}
-use Rattle.hp_proc.proofs.HandFacts.HandMarks.{held_tied, noted_calls, noted_same, with_same}
-use Rattle.hp_proc.proofs.LinesInHall.{idle_again, idle_in, idle_still}
+use Rattle.hp_proc.proofs.HandFacts.HandMarks.{held_tied, noted_calls, noted_same, spared_marks, with_same}
+use Rattle.hp_proc.proofs.LinesInHall.{idle_in, idle_still}
 use Rattle.hp_serve.proofs.Carrying.{same_party, same_then}
 use Rattle.hp_serve.proofs.InHalls.{remains_then}
 use Rattle.hp_proc.proofs.Joining.{does_then}
@@ -78,8 +88,29 @@ keeps_same me doer heap {a} holds = record {
   context = refl;
   settled = holds.settled;
   mapped = holds.mapped;
+  knows = knows_same me a;
   remains = remains_same me doer.party a holds.can.tied;
 }
+
+-- a heap with room for more calls is held as it was
+pub spared_holds : (me : ℕ) (doer : ParticipantView) (heap next : HeapView) (a : HallState) → SameButSpare heap next → HoldsIn me doer heap a
+    → HoldsIn me doer next a
+spared_holds me doer heap next a same holds = record {
+  can = holds.can;
+  marks = spared_marks me heap next a same holds.marks;
+  chunks = holds.chunks;
+  in_hand = hand_spared heap next same (moment me doer a) a.taken holds.in_hand;
+  settled = holds.settled;
+  attached = holds.attached;
+  named = holds.named;
+  mapped = holds.mapped;
+}
+
+-- and names agree with it as they did
+pub spared_agrees : {names : NamesView} (heap next : HeapView) (parts : ℕ → HeapPart) → SameButSpare heap next
+    → AgreeWith (with_naming heap parts) names → AgreeWith (with_naming next parts) names
+spared_agrees heap next parts same =
+    held_agrees heap next parts parts (ap (λ (plain : PlainHeap). plain.index) same.plain) (ap naming_of same.plain) (λ index. refl) (λ index. refl)
 
 -- what it did with its heap joins
 pub keeps_then : {first mid last : ParticipantView} {one two three : HeapView} {a b c : HallState}
@@ -96,14 +127,15 @@ keeps_then {first} {mid} {last} {one} {two} {three} {a} {b} {c} here next =
       context = knew_then first.context mid.context last.context here.context there.context;
       settled = there.settled;
       mapped = there.mapped;
+      knows = knows_then here.knows there.knows;
       remains = remains_then here.remains there.remains;
     }
 
 -- and joins with a wait before it, in which the heap stayed as it was
 pub keeps_after : {first mid last : ParticipantView} {one two three : HeapView} {a b c : HallState}
-    → RemainsIn first.party.me first.party mid.party a b → mid.context ≡ first.context → two ≡ one
+    → RemainsIn first.party.me first.party mid.party a b → KnowsAsBefore first.party.me a b → mid.context ≡ first.context → two ≡ one
     → KeepsHeld mid.party.me mid last two three b c → KeepsHeld first.party.me first last one three a c
-keeps_after {first} {mid} {last} {one} {two} {three} {a} {b} {c} here knew heap next =
+keeps_after {first} {mid} {last} {one} {two} {three} {a} {b} {c} here knows knew heap next =
     let there : KeepsHeld first.party.me mid last two three b c =
     subst (λ (who : ℕ). KeepsHeld who mid last two three b c) here.same.me next in
     record {
@@ -114,6 +146,7 @@ keeps_after {first} {mid} {last} {one} {two} {three} {a} {b} {c} here knew heap 
       context = knew_after first.context mid.context last.context knew there.context;
       settled = there.settled;
       mapped = there.mapped;
+      knows = knows_then knows there.knows;
       remains = remains_then here there.remains;
     }
 
@@ -201,6 +234,7 @@ keeps_called doer after heap next {call} {answer} {a} step counted pages none wh
       context = refl;
       settled = holds.settled;
       mapped = holds.mapped;
+      knows = knows_same me a;
       remains = remains_same me doer.party a holds.can.tied;
     })
 
@@ -247,54 +281,51 @@ again_by {me} old new {a} {b} stays knew ready =
       context = knew_same old.context new.context knew;
     }
 
--- the other slots are free while a heap is in hand
-pub but_kept : {slot index : ℕ} {a b : HallState} → index ≡ slot → AreFreeBut slot a → SlotsStay a b → AreFreeBut index b
-but_kept {slot} {index} {a} {b} same free slots =
-    subst (λ (slot : ℕ). AreFreeBut slot b) (sym same)
-    (record {
-      taken = λ number apart. slots.taken number ∙ free.taken number apart;
-      home = λ number few apart. slots.home number (free.home number few apart);
-    })
-
--- it is given back, and its holder holds no slot again
-pub idle_put : (party : Party) (heap : HeapView) {a b : HallState} → CanServe party.me party a → AreFreeBut heap.plain.index a
-    → IsTiedIn party.me party b → IsFreeAt heap.plain.index b → SlotsStayBut heap.plain.index a b
-    → OthersStay party.me a b → IsIdleIn party.me party b
-idle_put party heap {a} {b} can free tied at slots others =
-    let may = can.may in
-    let declared = may.declared in
-    let count = others.later.count in
-    let but : AreFreeBut heap.plain.index b = record {
-      taken = λ number apart. slots.taken number apart ∙ free.taken number apart;
-      home = λ number few apart. slots.home number apart (free.home number few apart);
-    } in
-    idle_again (others.later.serves party.me may.serves) (omega (arith, declared, count)) tied but at
-
--- so it is ready again
-pub ready_put : (doer : ParticipantView) (heap : HeapView) {a b : HallState} → HoldsIn doer.party.me doer heap a → AreFreeBut heap.plain.index a
-    → HasMarksOf doer.party.me heap a b → (IsTiedWith doer.party.me doer.party heap a → IsTiedIn doer.party.me doer.party b)
-    → MayDo (moment doer.party.me doer b)
+-- it is given back, and its holder is ready again but for the names
+pub ready_put : (doer : ParticipantView) (heap : HeapView) {old a b : HallState} → HoldsIn doer.party.me doer heap a
+    → AreFreeBesideNames heap.plain.index doer.party.me old a → HasMarksOf doer.party.me heap a b
+    → (IsTiedWith doer.party.me doer.party heap a → IsTiedIn doer.party.me doer.party b) → MayDo (moment doer.party.me doer b)
     → TableStays doer.party.me a b → IsFreeAt heap.plain.index b → SlotsStayBut heap.plain.index a b → OthersStay doer.party.me a b
-    → IsReadyIn doer.party.me doer b
-ready_put doer heap {a} {b} holds free marks tied ready table at slots others = record {
-  idle = idle_put doer.party heap holds.can free (tied (held_tied doer.party.me doer heap holds)) at slots others;
-  ready = ready;
-  attached = table.joined ∙ holds.attached;
-  named = (others.later.named doer.party.me).sockets ∙ holds.named;
-  chunks = λ index.
-      ap (map (own_chunk index)) (marks index ∙ with_same doer.party.me heap a holds.marks index) ∙ holds.chunks index;
-}
+    → IsReadyBut NAMES_SLOT doer.party.me doer b
+ready_put doer heap {old} {a} {b} holds free marks tied ready table at slots others =
+    let me = doer.party.me in
+    let may = holds.can.may in
+    record {
+      serves = others.later.serves me may.serves;
+      declared = omega (arith, others.later.count, may.declared);
+      free = record {
+        taken = λ number away.
+            ⊎_elim (λ (is : number ≡ heap.plain.index). ap b.taken is ∙ at.taken)
+            (λ (apart : number ≢ heap.plain.index). slots.taken number apart ∙ free.taken number apart away)
+            (cases_eq number heap.plain.index);
+        home = λ number few away.
+            ⊎_elim (λ (is : number ≡ heap.plain.index). subst b.may_take (sym is) at.home)
+            (λ (apart : number ≢ heap.plain.index). slots.home number apart (free.home number (below number few away) apart))
+            (cases_eq number heap.plain.index);
+      };
+      tied = tied (held_tied me doer heap holds);
+      ready = ready;
+      attached = table.joined ∙ holds.attached;
+      named = (others.later.named me).sockets ∙ holds.named;
+      chunks = λ index. ap (map (own_chunk index)) (marks index ∙ with_same me heap a holds.marks index) ∙ holds.chunks index;
+    }
+  where
+    below : (number : ℕ) → number ≤ NAMES_SLOT → number ≢ NAMES_SLOT → number < NAMES_SLOT
+    below number few away = omega (arith, few, away)
+
+pub names_put : {me : ℕ} {heap : HeapView} {old a b : HallState} → heap.plain.index < MAX_HEAPS → AreFreeBesideNames heap.plain.index me old a
+    → KeepsAgreed me heap a b → SlotsStayBut heap.plain.index a b → IsBesideTheNames me old b
+names_put few free agreed slots = names_then free.names (names_but few slots agreed.told)
 
 -- after what it did with the heap that it took
-pub again_put : {first mid last : ParticipantView} {one two : HeapView} {a b : HallState} {c : HallState} → IsSameParty first.party mid.party
-    → mid.context ≡ first.context → KeepsHeld mid.party.me mid last one two a b → IsReadyIn last.party.me last c
-    → HasCalled first.party.me first last c
-again_put {first} {mid} {last} {one} {two} {a} {b} {c} same knew keeps ready = record {
-  again = record {
-    same = same_then first.party mid.party last.party same keeps.remains.same;
-    ready = subst (λ (who : ℕ). IsReadyIn who last c) (keeps.remains.same.me ∙ same.me) ready;
-  };
+pub again_put : {first mid last : ParticipantView} {one two : HeapView} {old a b c : HallState} → IsSameParty first.party mid.party
+    → mid.context ≡ first.context → KeepsHeld mid.party.me mid last one two a b → IsReadyBut NAMES_SLOT last.party.me last c
+    → IsBesideTheNames first.party.me old c → HasCalledBeside first.party.me first last old c
+again_put {first} {mid} {last} {one} {two} {old} {a} {b} {c} same knew keeps ready names = record {
+  same = same_then first.party mid.party last.party same keeps.remains.same;
+  but = subst (λ (who : ℕ). IsReadyBut NAMES_SLOT who last c) (keeps.remains.same.me ∙ same.me) ready;
   context = knew_after first.context mid.context last.context knew keeps.context;
+  names = names;
 }
 
 -- so it is to a whole line, after which it knows other things

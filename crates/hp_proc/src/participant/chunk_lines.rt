@@ -1,20 +1,22 @@
 //! What the lines that attach a chunk and leave it do with its heap in hand, and how a participant leaves all chunks when it detaches.
 ghost use Rattle.std.specs.Prelude.{◌≡◌, ◌⊎◌, ◌^◌, ◌<◌, ◌≤◌, ℕ, [], ◌∷◌, IfErr, IfOk, IsOk, None, OnErr, OnOk, length};
 ghost use Rattle.hp_base.specs.declared.limits.TheConstants.{MAX_HEAPS};
-ghost use Rattle.hp_external.specs.Attaching.{Attaches, IsAttachFault, IsOwnChunkAt};
+ghost use Rattle.hp_external.specs.Attaching.{Attaches, IsAttachFault, IsDetachFault, IsOwnChunkAt};
 ghost use Rattle.hp_external.specs.Naming.{IsThatHeap};
 ghost use Rattle.hp_hall.specs.HallState.{IsBusy};
+ghost use Rattle.hp_hall.specs.Naming.{marked_by};
 ghost use Rattle.hp_heap.specs.Chunks.{chunk_at};
 ghost use Rattle.hp_maps.specs.MapsView.{calls_of};
 ghost use Rattle.hp_script.specs.declared.answer.Answer.TheVariants as gives;
 ghost use Rattle.hp_proc.specs.Doing.{Doing};
-ghost use Rattle.hp_proc.specs.ExternalAnswers.{IsMeant, attach_said, detach_said};
-ghost use Rattle.hp_proc.specs.ExternalLines.{leaving_all, leaving_chunk, mapping};
+ghost use Rattle.hp_proc.specs.ExternalAnswers.{IsMeant, attach_said, detach_said, left_said};
+ghost use Rattle.hp_proc.specs.ExternalLines.{leaving_all, mapping};
+ghost use Rattle.hp_proc.specs.HeldLines.{DetachesNoted};
 ghost use Rattle.hp_proc.specs.LineInHall.{DoesHere, DoesOnceHere, HaltsHere, HasRoom, IsReadyAgain, IsReadyIn};
-ghost use Rattle.hp_proc.specs.LeavesChunks.{LeavesInHand};
-ghost use Rattle.hp_proc.specs.MarksInHand.{HoldsNamedMarked, KeepsMarked, StaysInHand, StaysNamed};
-ghost use Rattle.hp_proc.specs.NamesInHand.{DoesInHand, DoesNamedHeld, LooksAtSegs, StandsStill};
-ghost use Rattle.hp_proc.specs.OwnChunks.{AreFirstOf, AreOwnIn, chunks_beside, chunks_of};
+ghost use Rattle.hp_proc.specs.LeavesChunks.{LeavesInHand, LeavesNoted};
+ghost use Rattle.hp_proc.specs.MarksInHand.{HoldsNamedMarked, KeepsMarked};
+ghost use Rattle.hp_proc.specs.NamesInHand.{DoesNamedHeld, LooksAtSegs, StandsStill};
+ghost use Rattle.hp_proc.specs.OwnChunks.{AreFirstOf, AreMarkedAs, chunks_beside, chunks_of};
 ghost use Rattle.hp_proc.specs.ParticipantView.{with_party};
 ghost use Rattle.hp_proc.specs.Progress.{AreOnce, caller_of};
 ghost use Rattle.hp_serve.specs.Clocks.{RisesWithin};
@@ -55,6 +57,16 @@ fn detach_answer(fault: DetachFault) -> Answer
     }
 }
 
+// The answer of a line that leaves a chunk.
+pub(crate) fn left_answer(judged: Result<(), DetachFault>) -> Answer
+    ensures { result ≡ left_said judged }
+{
+    match judged {
+        Ok(()) => Answer::Done,
+        Err(fault) => detach_answer(fault),
+    }
+}
+
 impl<'p, M: Mapper, F: Decide + Copy + Drop> Participant<'p, M, F> {
     // Maps the pages of the chunk and sets its mark, while it has the segment value in hand, which shows that its memory is claimed.
     fn attach_held<H: Hall>(
@@ -81,7 +93,10 @@ impl<'p, M: Mapper, F: Decide + Copy + Drop> Participant<'p, M, F> {
         let me = self.number();
         let caller = self.caller();
         let segs = take_segments(hall, me);
+        hp_segs::log_law();
+        heap.chunks();
         let judged = self.judged.as_mut();
+        let _ = judged.server.rows();
         let attached = judged
             .server
             .attach_memory(names, heap, caller, text, addr, len);
@@ -137,32 +152,27 @@ impl<'p, M: Mapper, F: Decide + Copy + Drop> Participant<'p, M, F> {
         text: &[u8],
         addr: u64,
         len: u64,
-    ) -> Answer
+    ) -> Result<(), DetachFault>
         requires named { IsThatHeap names.now.heaps.plain text.now heap.old.plain }
-        requires meant { IsMeant names.now.heaps.plain text.now heap.old.plain.index }
         requires room { HasRoom 1 heap.old self.old }
-        ensures does { DoesInHand self.old self.new names.now names.now heap.old heap.new
-            (leaving_chunk self.old.party.me heap.old.plain.index addr len heap.old.plain (chunk_at addr len heap.old.plain)) (Doing.Ended result) }
-        ensures stays { StaysNamed self.old self.new names.now names.now heap.old heap.new }
+        ensures left { OnOk result (DetachesNoted text.now (record { heap = heap.old.plain.index; addr = addr; len = len }) self.old self.new
+            names.now.heaps.plain heap.old heap.new) }
+        ensures refused { IfErr result (IsDetachFault self.old.party.me names.now.heaps.plain text.now addr len heap.old.plain) }
+        ensures err { OnErr result (StandsStill self.old self.new names.now names.now heap.old heap.new) }
     {
         let caller = self.caller();
+        let chunk = OwnChunk {
+            heap: heap.index(),
+            addr,
+            len,
+        };
         let judged = self.judged.as_mut();
-        match judged
+        judged
             .server
-            .detach_memory(names, heap, caller, text, addr, len)
-        {
-            Ok(()) => {
-                self.count_call();
-                let chunk = OwnChunk {
-                    heap: heap.index(),
-                    addr,
-                    len,
-                };
-                self.context.forget_chunk(&chunk);
-                Answer::Done
-            }
-            Err(fault) => detach_answer(fault),
-        }
+            .detach_memory(names, heap, caller, text, addr, len)?;
+        self.count_call();
+        self.context.forget_chunk(&chunk);
+        Ok(())
     }
 
     // Leaves a chunk of the heap in its hand, which it has attached.
@@ -171,8 +181,7 @@ impl<'p, M: Mapper, F: Decide + Copy + Drop> Participant<'p, M, F> {
         requires external { heap.old.plain.serves ≡ None }
         requires marked { IsOwnChunkAt self.old.party.me chunk.now.addr chunk.now.len heap.old.plain }
         requires room { HasRoom 1 heap.old self.old }
-        ensures does { LeavesInHand (chunk.now ∷ []) self.old self.new heap.old heap.new }
-        ensures stays { StaysInHand self.old self.new heap.old heap.new }
+        ensures left { LeavesNoted chunk.now self.old self.new heap.old heap.new }
     {
         let caller = self.caller();
         let judged = self.judged.as_mut();
@@ -187,15 +196,18 @@ impl<'p, M: Mapper, F: Decide + Copy + Drop> Participant<'p, M, F> {
     fn leave_held(&mut self, heap: &mut Heap)
         requires first { AreFirstOf heap.old.plain.index self.old.context.standing.chunks }
         requires external { heap.old.plain.serves ≡ None }
-        requires marked { AreOwnIn self.old.party.me heap.old.plain self.old.context.standing.chunks }
+        requires noted { AreMarkedAs heap.old.plain.index (marked_by self.old.party.me heap.old.plain) self.old.context.standing.chunks }
         requires room { HasRoom (length (chunks_of heap.old.plain.index self.old.context.standing.chunks)) heap.old self.old }
-        ensures does { LeavesInHand (chunks_of heap.old.plain.index self.old.context.standing.chunks) self.old self.new heap.old heap.new }
-        ensures stays { StaysInHand self.old self.new heap.old heap.new }
+        ensures left { LeavesInHand (chunks_of heap.old.plain.index self.old.context.standing.chunks) self.old self.new heap.old heap.new }
+        ensures others { self.new.context.standing.chunks ≡ chunks_beside heap.old.plain.index self.old.context.standing.chunks }
     {
-        while let Some(chunk) = self.context.first_chunk() {
+        'leaving: while let Some(chunk) = self.context.first_chunk() {
             if chunk.heap != heap.index() {
                 return;
             }
+            // What holds of every heap and its chunks is handed out with these.
+            heap.sound();
+            heap.chunks();
             self.leave_in(heap, &chunk);
         }
     }
@@ -234,7 +246,7 @@ impl<'p, M: Mapper, F: Decide + Copy + Drop> Participant<'p, M, F> {
         ensures clock { RisesWithin H.pending (λ hall. IsBusy (H.state hall)) 0 (H.state hall.old).clock (H.state hall.new).clock }
         ensures goes_on { H.goes_on hall.old hall.new }
     {
-        while let Some(chunk) = self.context.first_chunk() {
+        'leaving: while let Some(chunk) = self.context.first_chunk() {
             self.leave_heap(hall, chunk.heap)?;
         }
         Ok(())

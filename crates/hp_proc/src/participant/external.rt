@@ -1,5 +1,5 @@
 //! The lines of external heaps. Each holds the names while it holds a heap.
-ghost use Rattle.std.specs.Prelude.{◌≡◌, ◌<◌, ℕ, [], ◌∷◌, IfErr, IfOk, None, OnErr, true};
+ghost use Rattle.std.specs.Prelude.{◌≡◌, ◌<◌, [], ◌∷◌, IfErr, IfOk, None, OnErr, true};
 ghost use Rattle.hp_base.specs.declared.limits.TheConstants.{MAX_HEAPS};
 ghost use Rattle.hp_external.specs.Creating.{IsPlaceFor};
 ghost use Rattle.hp_hall.specs.HallState.{IsBusy};
@@ -9,11 +9,13 @@ ghost use Rattle.hp_proc.specs.Handing.{shared_of};
 ghost use Rattle.hp_proc.specs.LineInHall.{DoesLineHere, HaltsLineHere, HasRoom, IsReadyAgain, IsReadyIn};
 ghost use Rattle.hp_proc.specs.LineTrees.{doing_held, doing_named};
 ghost use Rattle.hp_proc.specs.MarksInHand.{HoldsNamedMarked, KeepsMarked};
-ghost use Rattle.hp_proc.specs.NamesInHand.{DoesNamed, DoesNamedHeld, DoesNamedOnce, HaltsNamed, HaltsNamedHeld, IsIndexMeant, IsReadyNamed};
+ghost use Rattle.hp_proc.specs.NamesInHand.{DoesNamed, DoesNamedHeld, DoesNamedOnce, HaltsNamed, HaltsNamedHeld, HaltsNamedOnce, IsIndexMeant, IsReadyNamed};
 ghost use Rattle.hp_serve.specs.Clocks.{RisesWithin};
 ghost use Rattle.hp_zone.specs.Directory.{IsDirectory};
 
 use super::Participant;
+use super::chunk_lines::left_answer;
+use super::memory_lines::{destroy_answer, made_answer};
 use hp_base::Mapper;
 use hp_external::{ChunkFault, CreateFault, NameFault, chunk_heap, external_heap, place_for};
 use hp_hall::Waiting;
@@ -127,9 +129,12 @@ impl<'p, M: Mapper, F: Decide + Copy + Drop> Participant<'p, M, F> {
         ensures keeps { KeepsMarked self.old.party.me self.old self.new names.new heap.old heap.new (H.state hall.old) (H.state hall.new) }
         ensures goes_on { H.goes_on hall.old hall.new }
     {
+        heap.chunks();
         match act {
-            Act::Heap { name } => self.make_held(names, heap, name.as_bytes()),
-            Act::Unheap { name } => Ok(self.destroy_held(names, heap, name.as_bytes())),
+            Act::Heap { name } => made_answer(self.make_held(names, heap, name.as_bytes())),
+            Act::Unheap { name } => {
+                Ok(destroy_answer(self.destroy_held(names, heap, name.as_bytes())))
+            }
             Act::Add {
                 heap: name,
                 addr,
@@ -150,7 +155,7 @@ impl<'p, M: Mapper, F: Decide + Copy + Drop> Participant<'p, M, F> {
                 heap: name,
                 addr,
                 len,
-            } => Ok(self.unmap_held(names, heap, name.as_bytes(), *addr, *len)),
+            } => Ok(left_answer(self.unmap_held(names, heap, name.as_bytes(), *addr, *len))),
             _ => unreachable!(),
         }
     }
@@ -192,8 +197,8 @@ impl<'p, M: Mapper, F: Decide + Copy + Drop> Participant<'p, M, F> {
         requires ready { IsReadyNamed self.old.party.me self.old names.old (H.state hall.old) }
         ensures does { IfOk result (λ given. DoesNamedOnce self.old.party.me self.old self.new names.old names.new (H.state hall.old)
             (H.state hall.new) (doing_named self.old.party.me self.old.context.pools act.now (shared_of names.old)) (Doing.Ended given)) }
-        ensures halts { OnErr result ((heap : ℕ) × HaltsNamed (heap ∷ []) self.old.party.me self.old self.new names.old names.new
-            (H.state hall.old) (H.state hall.new) (doing_named self.old.party.me self.old.context.pools act.now (shared_of names.old))) }
+        ensures halts { OnErr result (HaltsNamedOnce self.old.party.me self.old self.new names.old names.new (H.state hall.old)
+            (H.state hall.new) (doing_named self.old.party.me self.old.context.pools act.now (shared_of names.old))) }
         ensures ready { IsReadyNamed self.old.party.me self.new names.new (H.state hall.new) }
         ensures clock { RisesWithin H.pending (λ hall. IsBusy (H.state hall)) 0 (H.state hall.old).clock (H.state hall.new).clock }
         ensures goes_on { H.goes_on hall.old hall.new }

@@ -12,6 +12,7 @@ ghost use Rattle.hp_heap.specs.declared.entry.HeapCall.TheVariants as call;
 ghost use Rattle.hp_proc.specs.ParticipantView.{after_call};
 ghost use Rattle.hp_proc.specs.Progress.{caller_of};
 ghost use Rattle.hp_hall.specs.HallState.{IsBusy};
+ghost use Rattle.hp_hall.specs.Naming.{naming_of};
 ghost use Rattle.hp_proc.specs.LineInHall.{DoesHeld, HaltsHeld, HasRoom, HoldsIn, KeepsHeld};
 
 use super::Participant;
@@ -46,6 +47,7 @@ impl<'p, M: Mapper, F: Decide + Copy + Drop> Participant<'p, M, F> {
         ensures clock { RisesWithin H.pending (λ hall. IsBusy (H.state hall)) (longest_wait self.old.party.deadline)
             (H.state hall.old).clock (H.state hall.new).clock }
         ensures keeps { KeepsHeld self.old.party.me self.old self.new heap.old heap.new (H.state hall.old) (H.state hall.new) }
+        ensures says { naming_of heap.new.plain ≡ naming_of heap.old.plain }
         ensures goes_on { H.goes_on hall.old hall.new }
         ensures passed { IfOk result (λ granted. granted ≡ false → (heap.new ≡ heap.old) × (self.new.context ≡ self.old.context)) }
         ensures spare { heap.old.spare ≤ heap.new.spare + 1 }
@@ -100,6 +102,7 @@ impl<'p, M: Mapper, F: Decide + Copy + Drop> Participant<'p, M, F> {
         ensures clock { RisesWithin H.pending (λ hall. IsBusy (H.state hall)) (longest_growth self.old.party.deadline)
             (H.state hall.old).clock (H.state hall.new).clock }
         ensures keeps { KeepsHeld self.old.party.me self.old self.new heap.old heap.new (H.state hall.old) (H.state hall.new) }
+        ensures says { naming_of heap.new.plain ≡ naming_of heap.old.plain }
         ensures goes_on { H.goes_on hall.old hall.new }
         ensures spare { heap.old.spare ≤ heap.new.spare + 1 }
         ensures more { self.new.context.calls ≤ self.old.context.calls + 1 }

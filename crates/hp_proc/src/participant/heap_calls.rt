@@ -1,6 +1,7 @@
 //! Single calls of a heap that a participant has in its hand. Each is its next one, over all heaps.
 ghost use Rattle.std.specs.Prelude.{◌≡◌, ◌+◌, ◌^◌, ◌<◌, IfNone, MatchOption, IfSome, false, true};
 ghost use Rattle.std.specs.Result.{result_err};
+ghost use Rattle.hp_base.specs.declared.limits.TheConstants.{MAX_PARTICIPANTS};
 ghost use Rattle.hp_heap.specs.Allowed.{IsAllowed};
 ghost use Rattle.hp_heap.specs.Choice.{HasNoChoice};
 ghost use Rattle.hp_heap.specs.Freeing.{fault_answer};
@@ -22,8 +23,10 @@ impl<'p, M: Mapper, F: Decide + Copy + Drop> Participant<'p, M, F> {
     // The caller of its next call.
     pub(crate) fn caller(&self) -> Caller
         requires counted { self.now.context.calls + 1 < 2 ^ 64 }
-        ensures { result ≡ caller_of self.now }
+        ensures is { result ≡ caller_of self.now }
+        ensures few { result.participant < MAX_PARTICIPANTS }
     {
+        self.judged.server.declared();
         Caller {
             participant: self.number(),
             number: self.context.calls + 1,

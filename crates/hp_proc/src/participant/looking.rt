@@ -182,7 +182,7 @@ impl<'p, M: Mapper, F: Decide + Copy + Drop> Participant<'p, M, F> {
     ) -> Result<Places, AllocError>
         requires ready { IsReadyIn self.old.party.me self.old (H.state hall.old) }
         ensures does { IfOk result (λ places. FindsPlaces self.old.party.me self.old self.new (maker_from maker.now) (place_list places)
-            (H.state hall.old) (H.state hall.new)) }
+            (hall.new ≡ hall.old) (H.state hall.old) (H.state hall.new)) }
         ensures halts { OnErr result ((goes : SharedNames → Doing) → HaltsHere [] self.old.party.me self.old self.new (H.state hall.old)
             (H.state hall.new) (reading_names goes)) }
         ensures ready { IsReadyAgain self.old.party.me self.old self.new (H.state hall.new) }

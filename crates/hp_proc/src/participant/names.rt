@@ -1,6 +1,8 @@
 //! How a participant holds the names, and what it reads there.
 ghost use Rattle.std.specs.Prelude.{[], IfOk, OnErr};
 ghost use Rattle.hp_hall.specs.HallState.{IsBusy};
+ghost use Rattle.hp_hall.specs.Values.{IsSoundKept};
+ghost use Rattle.hp_hall.specs.declared.kept.Kept.{Kept};
 ghost use Rattle.hp_proc.specs.Doing.{Doing};
 ghost use Rattle.hp_proc.specs.LineInHall.{HaltsHere, HasReadAll, HasReadNames, HoldsNames, IsReadyAgain, IsReadyIn};
 ghost use Rattle.hp_proc.specs.NamesInHand.{GivesNamesBack, MayGiveNames};
@@ -17,6 +19,13 @@ use hp_script::Token;
 use hp_serve::Decide;
 use hp_zone::Names;
 use std::alloc::AllocError;
+
+// What holds of names at all times. It does nothing.
+pub(crate) fn are_sound(names: &Names)
+    ensures { IsSoundKept (Kept.Names names.now) }
+{
+    let _ = (names.heaps.log(), names.zones.log());
+}
 
 impl<'p, M: Mapper, F: Decide + Copy + Drop> Participant<'p, M, F> {
     // Tries to take the names, and takes turns while another one holds them.

@@ -1,16 +1,25 @@
 //! What of its table is memory of external heaps: it maps a chunk of the heap in its hand, and unmaps it.
 ghost use Rattle.std.specs.Prelude.{◌≡◌, IfErr, None, OnErr, OnOk};
+ghost use Rattle.hp_base.specs.Mapping.{AreApart};
 ghost use Rattle.hp_external.specs.Attaching.{Attaches, Detaches, IsAttachFault, IsDetachFault, IsOwnChunkAt, Leaves, MayAttach};
 ghost use Rattle.hp_external.specs.Naming.{IsThatHeap, MayCall};
 ghost use Rattle.hp_serve.specs.Party.{with_maps};
 
 use super::Server;
-use hp_base::{Caller, Mapper};
+use hp_base::{Caller, Mapper, Row};
 use hp_external::{AttachFault, DetachFault, memory_attach, memory_detach, memory_leave};
 use hp_heap::Heap;
 use hp_zone::Names;
 
 impl<'p, M: Mapper> Server<'p, M> {
+    /// What it has mapped, in the order of mapping: rows of the log, and of chunks. Own.
+    pub fn rows(&self) -> &[Row]
+        ensures rows { result.now ≡ self.now.maps.rows }
+        ensures apart { AreApart self.now.maps.rows }
+    {
+        self.maps.rows()
+    }
+
     /// It attaches the chunk with that address and length of an external heap, by the names and the heap in its hand. After
     /// rte_malloc_heap_memory_attach.
     pub fn attach_memory(

@@ -11,7 +11,7 @@ use Rattle.hp_proc.specs.Contexts.{Context}
 use Rattle.hp_proc.specs.Doing.{Deed, Doing}
 use Rattle.hp_proc.specs.LineInHall.{HaltsHeld}
 use Rattle.hp_proc.proofs.HandFacts.HandAsked.{held_some}
-use Rattle.hp_proc.proofs.HandFacts.HandGrown.{allowed_by, calls_by, does_grown, grew_by, halts_grown, halts_unasked, keeps_asked, keeps_grown, passed_by, spare_by}
+use Rattle.hp_proc.proofs.HandFacts.HandGrown.{allowed_by, calls_by, does_grown, grew_by, halts_grown, halts_unasked, keeps_asked, keeps_grown, passed_by, says_grown, spare_by, told_asked, told_unasked}
 use Rattle.hp_proc.proofs.participant.Participant.ask_in.Goals as goal
 
 pub ask-requires-clause-can : goal.ask-requires-clause-can
@@ -31,7 +31,7 @@ pub returns-in_err-answered-clause-keeps : goal.returns-in_err-answered-clause-k
 returns-in_err-answered-clause-keeps g c =
     let is = c.ask.ensures in
     keeps_asked c.args.self.now c.ask.new.self (g.H.Hall.state c.args.hall.now) (g.H.Hall.state c.ask.new.hall) c.args.heap.now
-    c.args.asked.now c.requires.holds c.requires.its is.context is.remains is.settled is.mapped
+    c.args.asked.now c.requires.holds c.requires.its is.context is.remains is.settled is.mapped (told_unasked c.args.self.now.party.me _ _ _ _ c.in_err-answered.ensures.err)
     (λ index. held_same _ _ (c.in_err-answered.ensures.err.armed.stays.mine.parts.part index))
 
 pub returns-in_err-answered-clause-halts : goal.returns-in_err-answered-clause-halts
@@ -45,7 +45,7 @@ returns-in_err-answered-clause-halts g c =
     let halts : (tag : Tag) (otherwise : Doing) → HaltsHeld doer.party.me doer c.ask.new.self heap heap old new
     (Doing.Then (Deed.Ask asked) (with_run asked.heap asked.request tag otherwise)) =
     λ tag otherwise.
-    halts_unasked doer c.ask.new.self old new heap asked c.requires.holds c.requires.its is.context is.remains is.settled is.mapped
+    halts_unasked doer c.ask.new.self old new heap asked c.requires.holds c.requires.its is.context is.remains is.settled is.mapped (told_unasked c.args.self.now.party.me _ _ _ _ c.in_err-answered.ensures.err)
     (Doing.Then (Deed.Ask asked) (with_run asked.heap asked.request tag otherwise)) c.in_err-answered.ensures.err in
     on_err_any _ _ halts
 
@@ -55,7 +55,9 @@ pub grow_by-granted-requires-clause-allowed : goal.grow_by-granted-requires-clau
 grow_by-granted-requires-clause-allowed g c =
     let is = c.ask.ensures in
     allowed_by c.args.self.now c.ask.new.self (g.H.Hall.state c.args.hall.now) (g.H.Hall.state c.ask.new.hall) c.args.heap.now
-    c.args.asked.now c.requires.holds c.requires.its is.context is.remains is.settled is.mapped is.others c.ask.new.self.party.me
+    c.args.asked.now c.requires.holds c.requires.its is.context is.remains is.settled is.mapped
+    (told_asked c.args.self.now c.ask.new.self _ _ c.args.asked.now c.in_ok-answered.answered.run c.in_ok-answered.answered.stopped
+    c.in_ok-answered.ensures.asks.did) is.others c.ask.new.self.party.me
     c.in_ok-answered.answered.run c.in_ok-answered.ensures.asks.grows c.requires.of_socket
 
 pub grow_by-granted-requires-clause-room : goal.grow_by-granted-requires-clause-room
@@ -74,7 +76,9 @@ returns-then-answered-clause-keeps g c =
     let last = c.grow_by-granted.new.self in
     let granted = c.grow_by-granted.result in
     keeps_grown c.args.self.now c.ask.new.self (g.H.Hall.state c.args.hall.now) (g.H.Hall.state c.ask.new.hall) c.args.heap.now
-    c.args.asked.now c.requires.holds c.requires.its is.context is.remains is.settled is.mapped is.others next last run granted
+    c.args.asked.now c.requires.holds c.requires.its is.context is.remains is.settled is.mapped
+    (told_asked c.args.self.now c.ask.new.self _ _ c.args.asked.now c.in_ok-answered.answered.run c.in_ok-answered.answered.stopped
+    c.in_ok-answered.ensures.asks.did) is.others next last run granted
     c.in_ok-answered.ensures.asks.grows
     (grew_by run granted c.args.heap.now next c.ask.new.self last c.grow_by-granted.ensures.none c.grow_by-granted.ensures.some)
 
@@ -86,7 +90,22 @@ returns-then-answered-clause-spare g c =
     let last = c.grow_by-granted.new.self in
     let granted = c.grow_by-granted.result in
     spare_by c.args.self.now c.ask.new.self (g.H.Hall.state c.args.hall.now) (g.H.Hall.state c.ask.new.hall) c.args.heap.now
-    c.args.asked.now c.requires.holds c.requires.its is.context is.remains is.settled is.mapped is.others next last run granted
+    c.args.asked.now c.requires.holds c.requires.its is.context is.remains is.settled is.mapped
+    (told_asked c.args.self.now c.ask.new.self _ _ c.args.asked.now c.in_ok-answered.answered.run c.in_ok-answered.answered.stopped
+    c.in_ok-answered.ensures.asks.did) is.others next last run granted
+    (grew_by run granted c.args.heap.now next c.ask.new.self last c.grow_by-granted.ensures.none c.grow_by-granted.ensures.some)
+
+pub returns-then-answered-clause-says : goal.returns-then-answered-clause-says
+returns-then-answered-clause-says g c =
+    let is = c.ask.ensures in
+    let run = c.in_ok-answered.answered.run in
+    let next = c.grow_by-granted.new.heap in
+    let last = c.grow_by-granted.new.self in
+    let granted = c.grow_by-granted.result in
+    says_grown c.args.self.now c.ask.new.self (g.H.Hall.state c.args.hall.now) (g.H.Hall.state c.ask.new.hall) c.args.heap.now
+    c.args.asked.now c.requires.holds c.requires.its is.context is.remains is.settled is.mapped
+    (told_asked c.args.self.now c.ask.new.self _ _ c.args.asked.now c.in_ok-answered.answered.run c.in_ok-answered.answered.stopped
+    c.in_ok-answered.ensures.asks.did) is.others next last run granted
     (grew_by run granted c.args.heap.now next c.ask.new.self last c.grow_by-granted.ensures.none c.grow_by-granted.ensures.some)
 
 pub returns-then-answered-clause-more : goal.returns-then-answered-clause-more
@@ -97,7 +116,9 @@ returns-then-answered-clause-more g c =
     let last = c.grow_by-granted.new.self in
     let granted = c.grow_by-granted.result in
     calls_by c.args.self.now c.ask.new.self (g.H.Hall.state c.args.hall.now) (g.H.Hall.state c.ask.new.hall) c.args.heap.now
-    c.args.asked.now c.requires.holds c.requires.its is.context is.remains is.settled is.mapped is.others next last run granted
+    c.args.asked.now c.requires.holds c.requires.its is.context is.remains is.settled is.mapped
+    (told_asked c.args.self.now c.ask.new.self _ _ c.args.asked.now c.in_ok-answered.answered.run c.in_ok-answered.answered.stopped
+    c.in_ok-answered.ensures.asks.did) is.others next last run granted
     (grew_by run granted c.args.heap.now next c.ask.new.self last c.grow_by-granted.ensures.none c.grow_by-granted.ensures.some)
 
 pub returns-then-answered-clause-halts : goal.returns-then-answered-clause-halts
@@ -110,7 +131,9 @@ returns-then-answered-clause-halts g c = λ tag otherwise.
     let last = c.grow_by-granted.new.self in
     let granted = c.grow_by-granted.result in
     halts_grown c.args.self.now c.ask.new.self (g.H.Hall.state c.args.hall.now) (g.H.Hall.state c.ask.new.hall) c.args.heap.now
-    c.args.asked.now c.requires.holds c.requires.its is.context is.remains is.settled is.mapped is.others next last tag otherwise did.0 did.1
+    c.args.asked.now c.requires.holds c.requires.its is.context is.remains is.settled is.mapped
+    (told_asked c.args.self.now c.ask.new.self _ _ c.args.asked.now c.in_ok-answered.answered.run c.in_ok-answered.answered.stopped
+    c.in_ok-answered.ensures.asks.did) is.others next last tag otherwise did.0 did.1
     run granted asks.grows
     (grew_by run granted c.args.heap.now next c.ask.new.self last c.grow_by-granted.ensures.none c.grow_by-granted.ensures.some)
     (subst (λ (stopped : Bool). DoesAskOn (denials_of c.args.self.now.context.standing)
@@ -129,7 +152,9 @@ returns-clause-does g c = λ tag otherwise.
     let last = c.grow_by-granted.new.self in
     let granted = c.grow_by-granted.result in
     does_grown c.args.self.now c.ask.new.self (g.H.Hall.state c.args.hall.now) (g.H.Hall.state c.ask.new.hall) c.args.heap.now
-    c.args.asked.now c.requires.holds c.requires.its is.context is.remains is.settled is.mapped is.others next last tag otherwise did.0 did.1
+    c.args.asked.now c.requires.holds c.requires.its is.context is.remains is.settled is.mapped
+    (told_asked c.args.self.now c.ask.new.self _ _ c.args.asked.now c.in_ok-answered.answered.run c.in_ok-answered.answered.stopped
+    c.in_ok-answered.ensures.asks.did) is.others next last tag otherwise did.0 did.1
     run granted asks.grows
     (grew_by run granted c.args.heap.now next c.ask.new.self last c.grow_by-granted.ensures.none c.grow_by-granted.ensures.some)
     (asked_whole (g.H.Hall.state c.args.hall.now).count c.args.self.now.party c.ask.new.self.party c.args.asked.now did.0 run
@@ -143,7 +168,9 @@ returns-clause-keeps g c =
     let last = c.grow_by-granted.new.self in
     let granted = c.grow_by-granted.result in
     keeps_grown c.args.self.now c.ask.new.self (g.H.Hall.state c.args.hall.now) (g.H.Hall.state c.ask.new.hall) c.args.heap.now
-    c.args.asked.now c.requires.holds c.requires.its is.context is.remains is.settled is.mapped is.others next last run granted
+    c.args.asked.now c.requires.holds c.requires.its is.context is.remains is.settled is.mapped
+    (told_asked c.args.self.now c.ask.new.self _ _ c.args.asked.now c.in_ok-answered.answered.run c.in_ok-answered.answered.stopped
+    c.in_ok-answered.ensures.asks.did) is.others next last run granted
     c.in_ok-answered.ensures.asks.grows
     (grew_by run granted c.args.heap.now next c.ask.new.self last c.grow_by-granted.ensures.none c.grow_by-granted.ensures.some)
 
@@ -155,7 +182,9 @@ returns-clause-passed g c =
     let last = c.grow_by-granted.new.self in
     let granted = c.grow_by-granted.result in
     passed_by c.args.self.now c.ask.new.self (g.H.Hall.state c.args.hall.now) (g.H.Hall.state c.ask.new.hall) c.args.heap.now
-    c.args.asked.now c.requires.holds c.requires.its is.context is.remains is.settled is.mapped is.others next last run granted
+    c.args.asked.now c.requires.holds c.requires.its is.context is.remains is.settled is.mapped
+    (told_asked c.args.self.now c.ask.new.self _ _ c.args.asked.now c.in_ok-answered.answered.run c.in_ok-answered.answered.stopped
+    c.in_ok-answered.ensures.asks.did) is.others next last run granted
     (grew_by run granted c.args.heap.now next c.ask.new.self last c.grow_by-granted.ensures.none c.grow_by-granted.ensures.some)
 
 pub returns-clause-spare : goal.returns-clause-spare
@@ -166,7 +195,22 @@ returns-clause-spare g c =
     let last = c.grow_by-granted.new.self in
     let granted = c.grow_by-granted.result in
     spare_by c.args.self.now c.ask.new.self (g.H.Hall.state c.args.hall.now) (g.H.Hall.state c.ask.new.hall) c.args.heap.now
-    c.args.asked.now c.requires.holds c.requires.its is.context is.remains is.settled is.mapped is.others next last run granted
+    c.args.asked.now c.requires.holds c.requires.its is.context is.remains is.settled is.mapped
+    (told_asked c.args.self.now c.ask.new.self _ _ c.args.asked.now c.in_ok-answered.answered.run c.in_ok-answered.answered.stopped
+    c.in_ok-answered.ensures.asks.did) is.others next last run granted
+    (grew_by run granted c.args.heap.now next c.ask.new.self last c.grow_by-granted.ensures.none c.grow_by-granted.ensures.some)
+
+pub returns-clause-says : goal.returns-clause-says
+returns-clause-says g c =
+    let is = c.ask.ensures in
+    let run = c.in_ok-answered.answered.run in
+    let next = c.grow_by-granted.new.heap in
+    let last = c.grow_by-granted.new.self in
+    let granted = c.grow_by-granted.result in
+    says_grown c.args.self.now c.ask.new.self (g.H.Hall.state c.args.hall.now) (g.H.Hall.state c.ask.new.hall) c.args.heap.now
+    c.args.asked.now c.requires.holds c.requires.its is.context is.remains is.settled is.mapped
+    (told_asked c.args.self.now c.ask.new.self _ _ c.args.asked.now c.in_ok-answered.answered.run c.in_ok-answered.answered.stopped
+    c.in_ok-answered.ensures.asks.did) is.others next last run granted
     (grew_by run granted c.args.heap.now next c.ask.new.self last c.grow_by-granted.ensures.none c.grow_by-granted.ensures.some)
 
 pub returns-clause-more : goal.returns-clause-more
@@ -177,5 +221,7 @@ returns-clause-more g c =
     let last = c.grow_by-granted.new.self in
     let granted = c.grow_by-granted.result in
     calls_by c.args.self.now c.ask.new.self (g.H.Hall.state c.args.hall.now) (g.H.Hall.state c.ask.new.hall) c.args.heap.now
-    c.args.asked.now c.requires.holds c.requires.its is.context is.remains is.settled is.mapped is.others next last run granted
+    c.args.asked.now c.requires.holds c.requires.its is.context is.remains is.settled is.mapped
+    (told_asked c.args.self.now c.ask.new.self _ _ c.args.asked.now c.in_ok-answered.answered.run c.in_ok-answered.answered.stopped
+    c.in_ok-answered.ensures.asks.did) is.others next last run granted
     (grew_by run granted c.args.heap.now next c.ask.new.self last c.grow_by-granted.ensures.none c.grow_by-granted.ensures.some)

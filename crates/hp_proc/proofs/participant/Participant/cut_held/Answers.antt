@@ -1,5 +1,6 @@
 -- The pages are cut, and the run of them is given up while the heap is in hand.
-use Rattle.std.proofs.Common.{◌≡◌, ◌≢◌, ◌∙◌, ℕ, Bool, true, false, not, cond, is_some, [], ◌∷◌, Some, refl, ap, sym, subst}
+use Rattle.std.proofs.Common.{◌≡◌, ◌≢◌, ◌∙◌, ℕ, Bool, true, false, not, cond, is_some, [], ◌∷◌, Some, refl, ap, sym, subst, ⊎_elim}
+use Rattle.std.proofs.lemmas.Bool.{cases_eq}
 use Rattle.hp_hall.specs.Holding.{HeapPart, IsHeldWith}
 use Rattle.hp_heap.specs.PlainHeap.{PlainHeap}
 use Rattle.hp_heap.specs.declared.entry.HeapAnswer.TheVariants as gives
@@ -27,7 +28,9 @@ use Rattle.hp_proc.specs.LineInHall.{did_in, moment_with}
 use Rattle.hp_proc.proofs.HandFacts.Holds.{keeps_called, keeps_same, knew_called, remains_called}
 use Rattle.hp_serve.proofs.InHalls.{in_same, remains_by, tied_later}
 use Rattle.hp_serve.proofs.SegmentSlots.{may_hold}
+use Rattle.hp_hall.proofs.NamesLeft.{call_leaves}
 use Rattle.hp_proc.proofs.ChunksLeft.{call_marks}
+use Rattle.hp_proc.proofs.WaitsAside.{hands_aside}
 use Rattle.hp_proc.proofs.participant.Participant.cut_held.Goals as goal
 
 external_ends : (place : SearchedHeap) (addr : ℕ) (none : Bool) → none ≡ true → is_some place.serves ≡ not none
@@ -55,6 +58,7 @@ returns-then-is_none g c =
           (sym (external_ends c.args.place.now c.args.addr c.is_none.result c.if-is_none.true c.is_none.ensures))
           (does_same hall.count (did_in me hall hall) (Doing.Ended answer.Done) at (did_same me hall));
       keeps = keeps_same me doer heap c.requires.holds;
+      says = refl;
       others = others_same me hall;
       goes_on = g.met.H.Hall.goes_on_same _;
     }
@@ -96,6 +100,7 @@ returns-in-None g c =
           (giving_up place.index) after counted (did_same me hall) refl);
       keeps = keeps_called doer after heap next step counted
           (ap (λ (heap : PlainHeap). heap.pages) (cut_nothing (caller_of doer) c.args.addr heap next step)) refl refl tt tt c.requires.holds;
+      says = (call_leaves (caller_of doer) (call.Cut c.args.addr) gives.Nothing heap next step c.requires.holds.in_hand.sound.tiled tt).naming;
       others = others_same me hall;
       goes_on = g.met.H.Hall.goes_on_same _;
     }
@@ -164,6 +169,18 @@ returns-in-Some g c =
             (λ (who : ℕ). HasSettledAsks (old.part who) (old.heard who) → HasSettledAsks (new.part who) (new.heard who)) is_me is.settled
             c.requires.holds.settled;
         mapped = subst (λ (who : ℕ). HasMapped who new) is_me is.mapped;
+        knows = record {
+          naming = λ index.
+              ⊎_elim
+              (λ (here : index ≡ place.index). subst (λ (at : ℕ). (new.part me at).naming ≡ (old.part me at).naming) (sym here)
+              (ap (λ (part : HeapPart). part.naming) gives_up.left))
+              (λ (away : index ≢ place.index). ap (λ (part : HeapPart). part.naming) (apart index away)) (cases_eq index place.index);
+          claims = λ index. (parts index).claims;
+          told = hands_aside (takes_segments taken ∷ gives_segments (after_retire place.index run taken) ∷ [])
+              (refl, refl, tt, (refl, refl, tt, refl))
+              (subst (λ (who : ℕ). Did who (takes_segments taken ∷ gives_segments (after_retire place.index run taken) ∷ []) old new) is_me
+              is.did.1);
+        };
         remains = record {
           same = called.same;
           tied = tied_later me after.party others.later joined own marked called.tied;
@@ -174,6 +191,7 @@ returns-in-Some g c =
           later = others.later;
         };
       };
+      says = (call_leaves (caller_of doer) (call.Cut c.args.addr) (gives.Pages run) heap cut step c.requires.holds.in_hand.sound.tiled tt).naming;
       others = others;
       goes_on = is.goes_on;
     }

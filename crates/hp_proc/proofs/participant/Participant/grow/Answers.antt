@@ -10,7 +10,7 @@ use Rattle.hp_hall.proofs.HallStates.{did_same, did_then, later_then, slots_then
 use Rattle.hp_heap.specs.History.{HeapView}
 use Rattle.hp_proc.specs.Contexts.{Context}
 use Rattle.hp_serve.specs.InHall.{IsTiedIn}
-use Rattle.hp_proc.specs.LineInHall.{HaltsHeld, did_in, moment}
+use Rattle.hp_proc.specs.LineInHall.{HaltsHeld, KnowsAsBefore, did_in, moment}
 use Rattle.hp_base.specs.declared.tag.Tag.{Tag}
 use Rattle.hp_proc.specs.Doing.{Doing}
 use Rattle.hp_proc.specs.Halting.{Halts}
@@ -18,12 +18,13 @@ use Rattle.hp_proc.specs.Heaps.{page_sizes_for}
 use Rattle.hp_serve.proofs.AskingFacts.AskedAlong.{on_err_any}
 use Rattle.hp_proc.proofs.Halted.{halts_same, then_halts}
 use Rattle.hp_proc.proofs.HallMoments.{does_more, told_alike}
+use Rattle.hp_proc.proofs.HandFacts.BesideNames.{knows_same, knows_then}
 use Rattle.hp_proc.proofs.HandFacts.Holds.{holds_on, keeps_after, keeps_same, knew_same}
 use Rattle.hp_serve.proofs.InHalls.{in_same, remains_by}
 use Rattle.hp_proc.proofs.Joining.{does_same}
 use Rattle.hp_proc.proofs.Rising.{few_page_sizes, rises_more, rises_within}
 use Rattle.hp_serve.specs.SegmentSlot.{MarksStay}
-use Rattle.hp_hall.specs.Naming.{marked_by}
+use Rattle.hp_hall.specs.Naming.{marked_by, naming_of}
 use Rattle.hp_proc.proofs.participant.Participant.grow.Goals as goal
 
 pub loop-page-init : goal.loop-page-init
@@ -33,6 +34,7 @@ loop-page-init g c = record {
   holds = c.requires.holds;
   heap = refl;
   context = refl;
+  knows = knows_same c.args.self.now.party.me (g.H.Hall.state c.args.hall.now);
   remains = remains_by (in_same c.args.self.now.party.me c.args.self.now.party (g.H.Hall.state c.args.hall.now) c.requires.holds.can.tied);
   goes_on = g.met.H.Hall.goes_on_same _;
   along = omega arith;
@@ -53,7 +55,7 @@ ask_in-requires-clause-room g c =
 -- IT STOPPED
 
 pub returns-in_err-ask_in-clause-keeps : goal.returns-in_err-ask_in-clause-keeps
-returns-in_err-ask_in-clause-keeps g c = keeps_after c.loop-page.invariant.remains c.loop-page.invariant.context c.loop-page.invariant.heap c.ask_in.ensures.keeps
+returns-in_err-ask_in-clause-keeps g c = keeps_after c.loop-page.invariant.remains c.loop-page.invariant.knows c.loop-page.invariant.context c.loop-page.invariant.heap c.ask_in.ensures.keeps
 
 pub returns-in_err-ask_in-clause-goes_on : goal.returns-in_err-ask_in-clause-goes_on
 returns-in_err-ask_in-clause-goes_on g c = g.met.H.Hall.goes_on_then _ _ _ c.loop-page.invariant.goes_on c.ask_in.ensures.goes_on
@@ -93,10 +95,18 @@ returns-in_err-ask_in-clause-halts g c =
     (λ one two. did_then) [] (asking index socket request tag otherwise items) left here there) in
     on_err_any _ _ halts
 
+pub returns-in_err-ask_in-clause-says : goal.returns-in_err-ask_in-clause-says
+returns-in_err-ask_in-clause-says g c =
+    c.ask_in.ensures.says ∙ ap (λ (heap : HeapView). naming_of heap.plain) c.loop-page.invariant.heap
+
 -- A RUN WAS GRANTED
 
+pub returns-then-branch-clause-says : goal.returns-then-branch-clause-says
+returns-then-branch-clause-says g c =
+    c.ask_in.ensures.says ∙ ap (λ (heap : HeapView). naming_of heap.plain) c.loop-page.invariant.heap
+
 pub returns-then-branch-clause-keeps : goal.returns-then-branch-clause-keeps
-returns-then-branch-clause-keeps g c = keeps_after c.loop-page.invariant.remains c.loop-page.invariant.context c.loop-page.invariant.heap c.ask_in.ensures.keeps
+returns-then-branch-clause-keeps g c = keeps_after c.loop-page.invariant.remains c.loop-page.invariant.knows c.loop-page.invariant.context c.loop-page.invariant.heap c.ask_in.ensures.keeps
 
 pub returns-then-branch-clause-goes_on : goal.returns-then-branch-clause-goes_on
 returns-then-branch-clause-goes_on g c = g.met.H.Hall.goes_on_then _ _ _ c.loop-page.invariant.goes_on c.ask_in.ensures.goes_on
@@ -172,6 +182,8 @@ loop-page-preserved g c =
       holds = holds_on one.keeps was.holds;
       heap = passed.0 ∙ was.heap;
       context = passed.1 ∙ was.context;
+      knows = knows_then was.knows
+          (subst (λ (who : ℕ). KnowsAsBefore who (g.H.Hall.state c.loop-page.hall) (g.H.Hall.state hall)) was.remains.same.me one.keeps.knows);
       remains = record {
         same = record {
           me = one.keeps.remains.same.me ∙ was.remains.same.me;
@@ -211,8 +223,12 @@ returns-clause-keeps g c =
       context = knew_same c.args.self.now.context c.loop-page.self.context was.context;
       settled = subst (λ (who : ℕ). AreSettled (moment who c.loop-page.self (g.H.Hall.state c.loop-page.hall))) me was.holds.settled;
       mapped = subst (λ (who : ℕ). HasMapped who (g.H.Hall.state c.loop-page.hall)) me was.holds.mapped;
+      knows = was.knows;
       remains = was.remains;
     }
+
+pub returns-clause-says : goal.returns-clause-says
+returns-clause-says g c = ap (λ (heap : HeapView). naming_of heap.plain) c.loop-page.invariant.heap
 
 pub returns-clause-does : goal.returns-clause-does
 returns-clause-does g c = λ tag otherwise.

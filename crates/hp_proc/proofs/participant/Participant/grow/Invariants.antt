@@ -6,7 +6,7 @@ use Rattle.hp_proc.specs.Doing.{Doing}
 use Rattle.hp_proc.specs.Heaps.{page_sizes_for}
 use Rattle.hp_proc.specs.Progress.{Does, in_hand}
 use Rattle.hp_hall.specs.HallState.{IsBusy}
-use Rattle.hp_proc.specs.LineInHall.{HoldsIn, did_in, moment}
+use Rattle.hp_proc.specs.LineInHall.{HoldsIn, KnowsAsBefore, did_in, moment}
 use Rattle.hp_serve.specs.InHall.{RemainsIn}
 use Rattle.hp_proc.proofs.participant.Participant.grow.Given as goal
 
@@ -22,6 +22,7 @@ invariant-loop-page g l = record {
   holds : HoldsIn l.self.party.me l.self l.heap (g.H.Hall.state l.hall);
   heap : l.heap ≡ l.fn.heap;
   context : l.self.context ≡ l.fn.self.context;
+  knows : KnowsAsBefore l.fn.self.party.me (g.H.Hall.state l.fn.hall) (g.H.Hall.state l.hall);
   remains : RemainsIn l.fn.self.party.me l.fn.self.party l.self.party (g.H.Hall.state l.fn.hall) (g.H.Hall.state l.hall);
   goes_on : g.H.Hall.goes_on l.fn.hall l.hall;
   along : l.page-index ≤ length l.page-items;

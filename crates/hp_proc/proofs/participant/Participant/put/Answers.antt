@@ -24,6 +24,7 @@ use Rattle.hp_proc.specs.LineInHall.{IsFreeAt, MayGiveBeside, moment}
 use Rattle.hp_proc.specs.ParticipantView.{ParticipantView}
 use Rattle.hp_proc.specs.Progress.{AreSettled, IsInHand, IsTakenWith, in_hand}
 use Rattle.hp_serve.proofs.Carrying.{same_party}
+use Rattle.hp_proc.proofs.HandFacts.BesideNames.{given_agrees, told_given}
 use Rattle.hp_proc.proofs.HandFacts.HandCalls.{hand_serves}
 use Rattle.hp_proc.proofs.HandFacts.HandGiven.{given_entries, given_marked, given_serves, ready_given}
 use Rattle.hp_proc.proofs.HandFacts.HandMarks.{tied_given}
@@ -163,6 +164,7 @@ returns g c =
       marks = marks;
       tied = tied_given me doer.party heap others.later joined own marks;
       table = record { joined = joined; seen = sees; own = own };
+      agreed = record { agrees = given_agrees me heap (old.part me) (new.part me) here apart; told = told_given did };
       free = subst (λ (index : ℕ). IsFreeAt index new) c.index-index.ensures (record { taken = is.gave.taken; home = is.gave.home });
       slots = subst (λ (index : ℕ). SlotsStayBut index old new) c.index-index.ensures (but_then (slots_but told.slots) is.slots);
       others = others;

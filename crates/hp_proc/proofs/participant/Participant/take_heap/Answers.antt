@@ -1,26 +1,31 @@
 -- The heap was taken, or another one holds it and the participant takes a turn.
 use Rattle.std.proofs.Common.{rules, ◌≡◌, ◌∙◌, ℕ, ◌++◌, List, [], ◌∷◌, Some, None, refl, ap, sym, subst, arith}
+use Rattle.std.proofs.lemmas.Result.{err_from_is_err_and}
 use Rattle.std.specs.Prelude.{◌-◌, ◌^◌}
 use Rattle.hp_hall.specs.HallState.{Did, HasMapped}
 use Rattle.hp_hall.specs.Holding.{HeapPart}
 use Rattle.hp_hall.specs.Mail.{MailStep, Takes}
 use Rattle.hp_hall.specs.declared.kept.Kept.{Kept}
 use Rattle.hp_hall.specs.declared.kept.Kept.TheVariants.{Heap}
-use Rattle.hp_hall.proofs.HallStates.{did_same, did_then, later_then}
+use Rattle.hp_hall.proofs.HallStates.{did_same, did_then, later_then, may_still}
 use Rattle.hp_proc.specs.Acting.{Acts}
 use Rattle.hp_proc.specs.Contexts.{Context}
 use Rattle.hp_proc.specs.Doing.{Doing}
 use Rattle.hp_proc.specs.Heaps.{sockets_of}
 use Rattle.hp_proc.specs.Halting.{Halts}
-use Rattle.hp_proc.specs.LineInHall.{moment}
+use Rattle.hp_proc.specs.Doing.Done.{HeapSeen}
+use Rattle.hp_proc.specs.ExternalLines.{seeing_heap}
+use Rattle.hp_proc.specs.LineInHall.{HasCalledBeside, IsBesideTheNames, moment}
 use Rattle.hp_proc.specs.Progress.{Does, in_hand, with_hand}
 use Rattle.hp_serve.proofs.AskingFacts.AskedAlong.{on_err_any}
 use Rattle.hp_serve.proofs.Carrying.{same_party}
 use Rattle.hp_proc.proofs.Halted.{halts_by, stops_more}
 use Rattle.hp_proc.proofs.HandFacts.HandCalls.{hand_serves}
 use Rattle.hp_proc.proofs.HandFacts.HandGiven.{ready_still, settled_taken, take_shows, taken_in_hand, took_armed, took_hand, took_serves, waits_more}
-use Rattle.hp_proc.proofs.HandFacts.Holds.{again_by}
-use Rattle.hp_proc.proofs.LinesInHall.{free_but, idle_can, idle_in, idle_may, may_but}
+use Rattle.hp_proc.proofs.HandFacts.BesideNames.{agree_alike, beside_can, beside_in, beside_may, names_but, names_stay, names_then, told_taken, took_agrees}
+use Rattle.hp_proc.proofs.HandFacts.Holds.{knew_same}
+use Rattle.hp_proc.proofs.HandFacts.SeenHeap.{does_seen, may_taken, on_err_match, waited_told}
+use Rattle.hp_proc.proofs.WaitsAside.{turn_aside}
 use Rattle.hp_serve.proofs.InHalls.{in_can, in_did, in_may, in_others, in_same, in_then, in_tied, marked_taken, tied_later}
 use Rattle.hp_proc.proofs.Joining.{does_still}
 use Rattle.hp_serve.proofs.Scaled.{own_measure_still}
@@ -33,9 +38,10 @@ taking-init g c =
     let old = g.H.Hall.state c.args.hall.now in
     record {
       waited = ([], did_same _ old, Acts.nothing None c.args.self.now);
-      stays = in_same c.args.self.now.party.me c.args.self.now.party old c.requires.ready.idle.tied;
+      stays = in_same c.args.self.now.party.me c.args.self.now.party old c.requires.ready.tied;
       context = refl;
       asked = refl;
+      told = refl;
       goes_on = g.met.H.Hall.goes_on_same _;
       clock = λ one. omega arith;
     }
@@ -43,11 +49,12 @@ taking-init g c =
 pub try_take-requires-clause-serves : goal.try_take-requires-clause-serves
 try_take-requires-clause-serves g c =
     subst (g.H.Hall.state c.taking.hall).serves (sym c.number.ensures)
-    (in_may c.taking.invariant.stays (idle_may c.requires.ready.idle)).serves
+    (in_may c.taking.invariant.stays (beside_may c.requires.ready)).serves
 
 pub try_take-requires-clause-home : goal.try_take-requires-clause-home
 try_take-requires-clause-home g c =
-    c.taking.invariant.stays.waits.slots.home c.args.index (c.requires.ready.idle.home c.args.index (omega (arith, c.requires.few)))
+    c.taking.invariant.stays.waits.slots.home c.args.index
+    (c.requires.ready.free.home c.args.index (omega (arith, c.requires.few)) (λ same. omega (arith, c.requires.few, same)))
 
 -- IT IS TAKEN
 
@@ -74,7 +81,7 @@ returns-in-Ok g c =
     let heard = later.heard me in
     let before = was.stays.waits.later.heard me in
     let last = is.others.later.heard me in
-    let idle = idle_in was.stays c.requires.ready.idle in
+    let free = (beside_in doer c.taking.self was.stays was.context c.requires.ready).free in
     let joined = subst (λ (who : ℕ). new.joined who ≡ mid.joined who) mine took.joined in
     let step =
     subst (λ (kept : Kept). Did me (Takes heap.plain.index kept ∷ []) mid new) c.into_heap.ensures
@@ -85,28 +92,42 @@ returns-in-Ok g c =
     was.stays.waits.parts.part before.1 c.requires.ready.ready in
     let out =
     subst (λ (kept : Kept). new.taken heap.plain.index ≡ Some kept) c.into_heap.ensures (ap new.taken shown.index ∙ took.taken) in
+    let steps : List MailStep = was.waited.0 ++ Takes heap.plain.index (Heap heap pen) ∷ [] in
+    let did : Did me steps old new = did_then was.waited.1 step in
+    let entries : (index : ℕ) → (with_hand c.taking.self.party.me heap (new.part me) index).entries ≡ (old.part me index).entries =
+    λ index.
+    subst (λ (who : ℕ). (with_hand who heap (new.part me) index).entries ≡ (mid.part me index).entries) (sym was.stays.same.me)
+    (took_hand heap (mid.part me) (new.part me) shown.here shown.apart me shown.has index)
+    ∙ ap (λ (part : HeapPart). part.entries) (was.stays.waits.parts.part index) in
+    let serves : (index : ℕ) → (with_hand c.taking.self.party.me heap (new.part me) index).serves ≡ (old.part me index).serves =
+    λ index.
+    hand_serves c.taking.self.party.me heap (new.part me) index
+    ∙ took_serves heap (mid.part me) (new.part me) shown.here shown.apart index
+    ∙ ap (λ (part : HeapPart). part.serves) (was.stays.waits.parts.part index) in
     record {
       did = λ doing.
           subst (λ (index : ℕ). Does (index ∷ []) old.count (λ (steps : List MailStep). Did me steps old new) doing doing (moment me doer old)
           (in_hand heap (moment me c.taking.self new))) shown.index
           (does_still old.count (λ (steps : List MailStep). Did me steps old new) doing (moment me doer old) (in_hand heap (moment me c.taking.self new))
-          (was.waited.0 ++ Takes heap.plain.index (Heap heap pen) ∷ []) (did_then was.waited.1 step)
+          steps did
           (Acts.and_then None None (Some heap.plain.index) [] (heap.plain.index ∷ []) doer c.taking.self c.taking.self [] [] was.waited.0
           (Takes heap.plain.index (Heap heap pen) ∷ []) was.waited.2
-          (Acts.takes_heap c.taking.self heap pen))
-          (λ index.
-          subst (λ (who : ℕ). (with_hand who heap (new.part me) index).entries ≡ (mid.part me index).entries) (sym was.stays.same.me)
-          (took_hand heap (mid.part me) (new.part me) shown.here shown.apart me shown.has index)
-          ∙ ap (λ (part : HeapPart). part.entries) (was.stays.waits.parts.part index))
-          (λ index.
-          hand_serves c.taking.self.party.me heap (new.part me) index
-          ∙ took_serves heap (mid.part me) (new.part me) shown.here shown.apart index
-          ∙ ap (λ (part : HeapPart). part.serves) (was.stays.waits.parts.part index))
-          was.stays.same was.context was.asked seen.0 seen.1 heard.0 heard.1);
+          (Acts.takes_heap c.taking.self heap pen shown.few))
+          entries serves was.stays.same was.context was.asked seen.0 seen.1 heard.0 heard.1);
+      sees = λ external goes.
+          subst (λ (index : ℕ). Does (index ∷ []) old.count (λ (steps : List MailStep). Did me steps old new) (seeing_heap index goes)
+          (goes heap.plain) (moment me doer old) (in_hand heap (moment me c.taking.self new))) shown.index
+          (does_seen old.count (λ (steps : List MailStep). Did me steps old new) heap goes (moment me doer old)
+          (in_hand heap (moment me c.taking.self new)) steps external shown.sound did
+          (Acts.and_then None None (Some heap.plain.index) [] (heap.plain.index ∷ []) doer c.taking.self c.taking.self []
+          (HeapSeen heap.plain.index heap.history ∷ []) was.waited.0 (Takes heap.plain.index (Heap heap pen) ∷ []) was.waited.2
+          (Acts.sees_heap c.taking.self heap pen shown.few))
+          entries serves was.stays.same was.context was.asked seen.0 seen.1 heard.0 heard.1);
       hand = record {
         holds = record {
           can = record {
-            may = may_but (omega (arith, c.requires.few)) is.others.later is.slots idle;
+            may = may_taken c.requires.few is.others.later is.slots
+                (may_still was.stays.waits.slots was.stays.waits.later (beside_may c.requires.ready));
             tied = tied_later me c.taking.self.party is.others.later joined (subst (λ (who : ℕ). new.own who ≡ mid.own who) mine took.own)
                 marks was.stays.tied;
           };
@@ -131,9 +152,17 @@ returns-in-Ok g c =
       };
       same = was.stays.same;
       context = was.context;
-      slots = free_but is.slots idle;
+      slots = record {
+        taken = λ number apart away. is.slots.taken number apart ∙ free.taken number away;
+        home = λ number few apart. is.slots.home number apart (free.home number (omega (arith, few)) (λ same. omega (arith, few, same)));
+        names = names_then (names_stay was.stays.waits.slots was.told) (names_but c.requires.few is.slots (told_taken step));
+      };
       halts = tt;
       err = tt;
+      agreed = λ names agree.
+          took_agrees heap (mid.part me) (new.part me) shown.few shown.here shown.apart shown.stands names
+          (agree_alike (old.part me) (mid.part me) (λ index. ap (λ (part : HeapPart). part.naming) (was.stays.waits.parts.part index))
+          (λ index. ap (λ (part : HeapPart). part.claims) (was.stays.waits.parts.part index)) agree);
       clock = λ one. omega (arith, was.clock one, is.others.clock);
       goes_on = g.met.H.Hall.goes_on_then _ _ _ was.goes_on is.goes_on;
     }
@@ -147,7 +176,7 @@ turn-requires g c =
     record {
       can = in_can
           (in_others c.taking.self.party c.number.ensures is.held.slots is.held.mine is.others.later (in_tied was.stays))
-          (in_can was.stays (idle_can c.requires.ready.idle));
+          (in_can was.stays (beside_can c.requires.ready));
       before = g.met.H.Hall.busy_pending c.try_take.new.self _ (c.args.index, _, is.held.found);
     }
 
@@ -185,6 +214,8 @@ taking-preserved g c =
       stays = in_then so_far is.stays;
       context = is.context ∙ was.context;
       asked = is.asks.asked ∙ was.asked;
+      told = waited_told was.told (in_did was.stays (subst (λ (who : ℕ). Did who [] mid late) here tried.held.did)) one.0
+          (turn_aside _ late.count (2 ^ 64 - 1) c.taking.self.party c.turn.new.self.party one.0 _ one.2) (in_did so_far one.1);
       goes_on = g.met.H.Hall.goes_on_then _ _ _ was.goes_on (g.met.H.Hall.goes_on_then _ _ _ tried.goes_on is.goes_on);
       clock = λ one. absurd (one.free c.try_take.new.self (c.args.index, _, tried.held.found));
     }
@@ -199,8 +230,7 @@ returns-in_err-turn-in-Err g c =
     let here = c.number.ensures in
     let all =
     in_then (in_then was.stays (in_others c.taking.self.party here tried.held.slots tried.held.mine tried.others.later (in_tied was.stays))) is.stays in
-    let ready = (again_by c.args.self.now c.turn.new.self all (is.context ∙ was.context) c.requires.ready).again.ready in
-    let idle = ready.idle in
+    let ready = beside_in c.args.self.now c.turn.new.self all (is.context ∙ was.context) c.requires.ready in
     let doer = c.args.self.now in
     let me = doer.party.me in
     let old = g.H.Hall.state c.args.hall.now in
@@ -219,12 +249,30 @@ returns-in_err-turn-in-Err g c =
     (stops_more old.count late.count (2 ^ 64 - 1) doer c.taking.self c.turn.new.self was.waited.0 one.0 so_far.waits.later.count is.context
     was.waited.2 one.2)
     (λ heap. ap (λ (part : HeapPart). part.entries) (all.waits.parts.part heap)) all.same (is.context ∙ was.context) in
+    let names : IsBesideTheNames me old new =
+    names_stay all.waits.slots
+    (waited_told was.told (in_did was.stays (subst (λ (who : ℕ). Did who [] mid late) here tried.held.did)) one.0
+    (turn_aside _ late.count (2 ^ 64 - 1) c.taking.self.party c.turn.new.self.party one.0 _ one.2) (in_did so_far one.1)) in
+    let called : HasCalledBeside me doer c.turn.new.self old new = record {
+      same = all.same;
+      but = ready;
+      context = knew_same doer.context c.turn.new.self.context (is.context ∙ was.context);
+      names = names;
+    } in
     record {
       did = search rules;
+      sees = search rules;
       halts = on_err_any c.from_residual.result _ halts;
       hand = search rules;
-      slots = record { taken = λ number apart. idle.free number; home = λ number few apart. idle.home number few };
-      err = on_err_any c.from_residual.result _ ready;
+      slots = record {
+        taken = λ number apart away. ready.free.taken number away;
+        home = λ number few apart. ready.free.home number (omega (arith, few)) (λ same. omega (arith, few, same));
+        names = names;
+      };
+      err = on_err_any c.from_residual.result _ called;
+      agreed = on_err_match c.from_residual.result _ _ (err_from_is_err_and c.from_residual.result c.from_residual.ensures.1).1
+          (λ stop names. agree_alike (old.part me) (new.part me) (λ index. ap (λ (part : HeapPart). part.naming) (all.waits.parts.part index))
+          (λ index. ap (λ (part : HeapPart). part.claims) (all.waits.parts.part index)));
       same = all.same;
       context = is.context ∙ was.context;
       clock = λ one. absurd (one.free c.try_take.new.self (c.args.index, _, tried.held.found));

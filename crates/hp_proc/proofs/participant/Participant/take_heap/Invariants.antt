@@ -1,6 +1,7 @@
 use Rattle.std.proofs.Common.{◌≡◌, ◌+◌, ◌-◌, ◌^◌, List, [], None}
 use Rattle.hp_hall.specs.HallState.{Did, IsBusy}
 use Rattle.hp_hall.specs.Mail.{MailStep}
+use Rattle.hp_hall.specs.Telling.{has_names}
 use Rattle.hp_proc.specs.Acting.{Acts}
 use Rattle.hp_serve.specs.Clocks.{RisesWithin}
 use Rattle.hp_serve.specs.InHall.{StaysIn, left_to_do}
@@ -13,6 +14,7 @@ invariant-taking g l = record {
   stays : StaysIn l.fn.self.party.me l.fn.self.party l.self.party (g.H.Hall.state l.fn.hall) (g.H.Hall.state l.hall);
   context : l.self.context ≡ l.fn.self.context;
   asked : l.self.party.asked ≡ l.fn.self.party.asked;
+  told : has_names ((g.H.Hall.state l.hall).done l.fn.self.party.me) ≡ has_names ((g.H.Hall.state l.fn.hall).done l.fn.self.party.me);
   goes_on : g.H.Hall.goes_on l.fn.hall l.hall;
   clock : RisesWithin g.H.Hall.pending (λ hall. IsBusy (g.H.Hall.state hall)) 0 (g.H.Hall.state l.fn.hall).clock (g.H.Hall.state l.hall).clock;
 }
