@@ -26,9 +26,11 @@ pub mod Lasting
 pub mod Leaving
 pub mod BesideChunks
 pub mod LinesOnward
+pub mod LinesTold
 pub mod SeenAndShown
 pub mod Made
 pub mod Members
+pub mod MarksAlong
 pub mod NamesAlong
 pub mod SlotAlong
 pub mod Picked

@@ -1,6 +1,6 @@
 -- What a slot keeps along steps of which those on it are one participant's: what is taken from it is what it keeps then, and what is given back
 -- it keeps afterwards.
-use Rattle.std.proofs.Common.{◌≡◌, ◌≢◌, ◌∙◌, ◌==◌, ℕ, zero, suc, ◌<◌, Bool, true, false, cond, List, [], ◌∷◌, length, map, Some, refl, sym, ap, subst, arith, ⊎_elim, eq-eqb}
+use Rattle.std.proofs.Common.{◌≡◌, ◌≢◌, ◌∙◌, ◌==◌, ℕ, zero, suc, ◌<◌, Bool, true, false, cond, List, [], ◌∷◌, ◌++◌, length, map, Some, refl, sym, ap, subst, arith, ⊎_elim, eq-eqb}
 use Rattle.std.specs.List.{AllByRecursion}
 use Rattle.std.specs.Prelude.{⊤, slice_get, slice_set}
 use Rattle.std.proofs.lemmas.Bool.{cases_Bool, cases_eq, eqb-true}
@@ -37,30 +37,32 @@ module _ (number : ℕ) where
   abbrev pub Keep : Kept → List Kept → Type 0
   Keep kept values = slice_get values number ≡ Some kept
 
-  -- what is taken from the slot is that
-  abbrev pub IsTakenSo : Kept → MailStep → Type 0
-  IsTakenSo kept (Takes slot taken) = slot ≡ number → taken ≡ kept
-  IsTakenSo kept _ = ⊤
-
   -- what it keeps after a step
   abbrev pub kept_after : Kept → MailStep → Kept
   kept_after kept (Gives slot given) = cond (slot == number) given kept
   kept_after kept _ = kept
 
-  -- so it is along steps, by what it keeps before them and at last
-  abbrev pub AreAlong : Kept → List MailStep → Kept → Type 0
-  AreAlong kept [] last = last ≡ kept
-  AreAlong kept (step ∷ steps) last = IsTakenSo kept step × AreAlong (kept_after kept step) steps last
+  -- what a participant takes from the slot is what it keeps, and what it gives there comes in place of that
+  abbrev pub IsShownSo : ℕ → Kept → MailStep → Type 0
+  IsShownSo who kept (Takes slot taken) = slot ≡ number → taken ≡ kept
+  IsShownSo who kept (Gives slot given) = slot ≡ number → IsGivenBy who kept given
+  IsShownSo who kept _ = ⊤
 
-  -- a step that is a participant's
-  shown_taken : (who : ℕ) (step : MailStep) (values : List Kept) (kept : Kept) → ShowsValues who step values → Keep kept values
-      → IsTakenSo kept step
-  shown_taken who (Takes slot taken) values kept shows keep =
+  -- so it is along its steps, by what the slot keeps before them and at last
+  abbrev pub AreAlong : ℕ → Kept → List MailStep → Kept → Type 0
+  AreAlong who kept [] last = last ≡ kept
+  AreAlong who kept (step ∷ steps) last = IsShownSo who kept step × AreAlong who (kept_after kept step) steps last
+
+  shown_so : (who : ℕ) (step : MailStep) (values : List Kept) (kept : Kept) → ShowsValues who step values → Keep kept values
+      → IsShownSo who kept step
+  shown_so who (Takes slot taken) values kept shows keep =
       λ same. same_Some taken kept (sym shows ∙ ap (slice_get values) same ∙ keep)
-  shown_taken who (Posts to frame action posted) values kept shows keep = tt
-  shown_taken who (Fetches frame) values kept shows keep = tt
-  shown_taken who (Notes note) values kept shows keep = tt
-  shown_taken who (Gives slot given) values kept shows keep = tt
+  shown_so who (Posts to frame action posted) values kept shows keep = tt
+  shown_so who (Fetches frame) values kept shows keep = tt
+  shown_so who (Notes note) values kept shows keep = tt
+  shown_so who (Gives slot given) values kept shows keep = λ same.
+      subst (λ (before : Kept). IsGivenBy who before given)
+      (same_Some shows.before kept (sym shows.there ∙ ap (slice_get values) same ∙ keep)) shows.by
 
   given_keeps : (slot : ℕ) (given kept : Kept) (values : List Kept) → Keep kept values
       → Keep (cond (slot == number) given kept) (slice_set values slot given)
@@ -120,6 +122,31 @@ module _ (number : ℕ) where
           absurd (no_segs_given who shows.before (Segments segs) shows.by (subst IsNoSegs (sym same) none))
       by_test false is = refl
 
+  -- steps that are on no slot
+  abbrev pub IsOnNone : MailStep → Type 0
+  IsOnNone (Takes slot kept) = ⊥
+  IsOnNone (Gives slot kept) = ⊥
+  IsOnNone _ = ⊤
+
+  none_after : (kept : Kept) (step : MailStep) → IsOnNone step → kept_after kept step ≡ kept
+  none_after kept (Posts to frame action posted) none = refl
+  none_after kept (Fetches frame) none = refl
+  none_after kept (Notes note) none = refl
+  none_after kept (Takes slot taken) none = absurd none
+  none_after kept (Gives slot given) none = absurd none
+
+  along_none : (who : ℕ) (steps : List MailStep) (kept last : Kept) → AllByRecursion IsOnNone steps → AreAlong who kept steps last → last ≡ kept
+  along_none who [] kept last none along = along
+  along_none who (step ∷ steps) kept last none along =
+      along_none who steps (kept_after kept step) last none.1 along.1 ∙ none_after kept step none.0
+
+  -- those before them leave what all leave
+  pub along_front : (who : ℕ) (steps more : List MailStep) (kept last : Kept) → AllByRecursion IsOnNone more
+      → AreAlong who kept (steps ++ more) last → AreAlong who kept steps last
+  along_front who [] more kept last none along = along_none who more kept last none along
+  along_front who (step ∷ steps) more kept last none along =
+      (along.0, along_front who steps more (kept_after kept step) last none along.1)
+
   -- what is left of the others' steps
   further : (count who maker : ℕ) (step : MailStep) (steps : List (ℕ × MailStep))
       → ((other : ℕ) → other < count → other ≢ who → GiveNoHeap (steps_of other ((maker, step) ∷ steps)))
@@ -133,15 +160,15 @@ module _ (number : ℕ) where
       (cases_eq maker other)
 
   -- what the slot keeps along the steps of the one participant, and what it keeps at last
-  pub record IsKeptAlong (kept : Kept) (steps : List MailStep) (new : List Kept) : Type 0 where
+  pub record IsKeptAlong (who : ℕ) (kept : Kept) (steps : List MailStep) (new : List Kept) : Type 0 where
     pub last : Kept
     pub keep : Keep last new
-    pub along : AreAlong kept steps last
+    pub along : AreAlong who kept steps last
     pub none : IsNoSegs last
 
   pub kept_along : (count who : ℕ) (steps : List (ℕ × MailStep)) (old new : List Kept) (kept : Kept) → IsKeptBy count steps old new
       → ((other : ℕ) → other < count → other ≢ who → GiveNoHeap (steps_of other steps)) → Keep kept old → IsNoSegs kept
-      → IsKeptAlong kept (steps_of who steps) new
+      → IsKeptAlong who kept (steps_of who steps) new
   kept_along count who [] old new kept by others keep none = record {
     last = kept;
     keep = ap (λ (values : List Kept). slice_get values number) by ∙ keep;
@@ -149,7 +176,7 @@ module _ (number : ℕ) where
     none = none;
   }
   kept_along count who (step ∷ steps) old new kept by others keep none =
-      let rest : IsKeptAlong (kept_after kept step.1) (steps_of who steps) new =
+      let rest : IsKeptAlong who (kept_after kept step.1) (steps_of who steps) new =
       kept_along count who steps (values_after step.1 old) new (kept_after kept step.1) by.1
       (further count who step.0 step.1 steps others) (step_keeps step.0 step.1 old kept keep)
       (still_none step.0 step.1 old kept by.0.shows keep none) in
@@ -157,9 +184,9 @@ module _ (number : ℕ) where
       (λ (same : step.0 ≡ who). record {
         last = rest.last;
         keep = rest.keep;
-        along = subst (λ (maker : ℕ). AreAlong kept (steps_of who ((maker, step.1) ∷ steps)) rest.last) (sym same)
-            (subst (λ (own : List MailStep). AreAlong kept own rest.last) (sym (steps_here who step.1 steps))
-            (shown_taken step.0 step.1 old kept by.0.shows keep, rest.along));
+        along = subst (λ (maker : ℕ). AreAlong who kept (steps_of who ((maker, step.1) ∷ steps)) rest.last) (sym same)
+            (subst (λ (own : List MailStep). AreAlong who kept own rest.last) (sym (steps_here who step.1 steps))
+            (shown_so who step.1 old kept (subst (λ (maker : ℕ). ShowsValues maker step.1 old) same by.0.shows) keep, rest.along));
         none = rest.none;
       })
       (λ (apart : step.0 ≢ who).
@@ -169,8 +196,8 @@ module _ (number : ℕ) where
       record {
         last = rest.last;
         keep = rest.keep;
-        along = subst (λ (own : List MailStep). AreAlong kept own rest.last) (sym (steps_elsewhere who step.0 step.1 steps apart))
-            (subst (λ (kept : Kept). AreAlong kept (steps_of who steps) rest.last) same rest.along);
+        along = subst (λ (own : List MailStep). AreAlong who kept own rest.last) (sym (steps_elsewhere who step.0 step.1 steps apart))
+            (subst (λ (kept : Kept). AreAlong who kept (steps_of who steps) rest.last) same rest.along);
         none = rest.none;
       })
       (cases_eq step.0 who)

@@ -19,7 +19,7 @@ use Rattle.hp_script.specs.declared.workload.Workload.{Workload}
 use Rattle.hp_segs.specs.Opening.{opening}
 use Rattle.hp_segs.specs.SegsView.{SegsView, is_member}
 use Rattle.hp_segs.specs.declared.outcome.AskLog.{AskLog}
-use Rattle.hp_proc.specs.OneThread.{AreHandedInOrder}
+use Rattle.hp_proc.specs.OneThread.{names_by}
 use Rattle.hp_proc.specs.Handing.{shared_of}
 use Rattle.hp_proc.specs.Acting.{AreAsked}
 use Rattle.hp_proc.specs.Contexts.{Context}
@@ -138,8 +138,8 @@ abbrev pub AreRegistered : Workload → List Course → ℕ → List LogRecord �
 AreRegistered workload courses reached log asks who party = All (λ listener.
     IsRegisteredBy who reached (opening_standing workload who) log asks (courses_of who courses) listener.name listener.since) party.listeners
 
--- the participants of a workload have done these lines in a hall of one thread, and have told so; they hold no slot; the names are those that the
--- lines leave, and each line was handed what those before it leave
+-- the participants of a workload have done these lines in a hall of one thread, and have told so; they hold no slot; the names are those that
+-- the lines leave
 pub record SoFar (workload : Workload) (courses : List Course) (parties : List Party) (hall : HallView) : Type 0 where
   -- the hall as it opened, and how it went on
   pub held : List HeldHeap
@@ -150,7 +150,7 @@ pub record SoFar (workload : Workload) (courses : List Course) (parties : List P
   pub names : NamesView
   pub named : slice_get (values_in hall) NAMES_SLOT ≡ Some (Names names)
   pub opened : names.heaps.sockets ≡ sockets_of workload.pools.items
-  pub handed : AreHandedInOrder workload courses (shared_of names)
+  pub leave : shared_of names ≡ names_by courses
   -- all participants, step by step
   pub first : GlobalState
   pub now : GlobalState

@@ -20,6 +20,7 @@ use Rattle.hp_proc.specs.Doing.{Done}
 use Rattle.hp_proc.specs.Ends.{history_by, none_made}
 use Rattle.hp_proc.specs.Histories.{entries_for}
 use Rattle.hp_proc.specs.LinesDone.{AreDone, Course, IsDone, courses_of, opening_standing, standing_after, trace_of}
+use Rattle.hp_proc.specs.OwnChunks.{chunks_of}
 use Rattle.hp_serve.specs.Party.{Party}
 use Rattle.hp_proc.specs.Progress.{MayDo, moment_of}
 use Rattle.hp_proc.proofs.Joining.{asked_on}
@@ -113,6 +114,10 @@ module _ (workload : Workload) (courses : List Course) (parties behind : List Pa
         ready = subst (λ (context : Context). MayDo (moment_of (record { party = goes.after.party; context = context }) (part_in new by)
             (seen_in new) (heard_in new))) (knows workload courses parties behind old new line answer given so goes) goes.does.ready;
         tied = goes.does.tied;
+        chunks = λ heap.
+            goes.does.chunks heap
+            ∙ ap (λ (context : Context). chunks_of heap context.standing.chunks)
+            (knows workload courses parties behind old new line answer given so goes);
       }
 
   -- EACH OTHER ONE
