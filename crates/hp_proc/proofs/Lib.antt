@@ -15,6 +15,7 @@ pub mod LeastData
 pub mod LineEnds
 pub mod LineFacts
 pub mod LinesInHall
+pub mod LinesOrdered
 pub mod MadeHeaps
 pub mod Makers
 pub mod Mapped
@@ -22,6 +23,7 @@ mod MarksApart
 mod MayAttachHere
 pub mod MeantHeaps
 pub mod NamesFollow
+pub mod NamesAround
 mod NamesHeld
 mod NamesRead
 pub mod NotedCame
@@ -43,5 +45,6 @@ pub mod Rising
 pub mod SocketHeapLemmas
 pub mod SocketNames
 mod StatsLines
+pub mod StepsOrdered
 pub mod Unarmed
 pub mod WorkedLines

@@ -1,7 +1,9 @@
 -- A participant that does a line in a hall: the rule "Lines" of docs/PARTICIPANTS.md.
-use Rattle.std.specs.Prelude.{◌≡◌, ◌≢◌, ◌⊎◌, ℕ, ◌+◌, ◌<◌, ◌≤◌, ◌^◌, true, List, [], ◌∷◌, ◌++◌, Contains, map, Option, Some, None, if◌then◌else◌, ⊤}
+use Rattle.std.specs.Prelude.{◌≡◌, ◌≢◌, ◌⊎◌, ℕ, ◌+◌, ◌<◌, ◌≤◌, ◌^◌, Bool, true, false, List, [], ◌∷◌, ◌++◌, Contains, map, Option, Some, None, ⊤}
 use Rattle.std.specs.List.{All, find}
 use Rattle.std.specs.Option.{option_map, option_to_list}
+use Rattle.hp_base.specs.declared.chunk.Chunk.{Chunk}
+use Rattle.hp_base.specs.declared.limits.TheConstants.{MAX_HEAPS}
 use Rattle.hp_base.specs.declared.row.Row.{Row}
 use Rattle.hp_hall.specs.Giving.{IsGiveOf}
 use Rattle.hp_hall.specs.HallState.{Did, HallState, HasMapped, IsLater, OthersStay, SlotsStay, known_to}
@@ -14,6 +16,7 @@ use Rattle.hp_hall.specs.Values.{HasNames, IsSoundKept}
 use Rattle.hp_hall.specs.declared.kept.Kept.TheVariants.{Names}
 use Rattle.hp_hall.specs.declared.slot.TheConstants.{NAMES_SLOT}
 use Rattle.hp_heap.specs.History.{HeapView}
+use Rattle.hp_maps.specs.Chunks.{rows_of_chunk}
 use Rattle.hp_script.specs.declared.answer.Answer.{Answer}
 use Rattle.hp_script.specs.declared.answer.Answer.TheVariants.{Address}
 use Rattle.hp_script.specs.Part.{Part}
@@ -231,9 +234,19 @@ pub record LiesIn (rows : List Row) (address : ℕ) : Type 0 where
   pub from : row.addr ≤ address
   pub below : address < row.addr + row.page
 
--- where it is in the roster, an address that it answers lies in a row that the hall knows its table to have
+-- an address lies in a page of a chunk that has a participant's mark, in one of the board's heaps
+pub record LiesInMarked (marked : ℕ → List Chunk) (address : ℕ) : Type 0 where
+  pub heap : ℕ
+  pub few : heap < MAX_HEAPS
+  pub chunk : Chunk
+  pub among : Contains (marked heap) chunk
+  pub lies : LiesIn (rows_of_chunk chunk) address
+
+-- where it is in the roster, an address that it answers lies in a row that the hall knows its table to have, or in a page of a chunk that it has
+-- attached
 abbrev pub IsKnownMapped : ℕ → HallState → Answer → Type 0
-IsKnownMapped me state (Address address) = state.joined me ≡ true → LiesIn (rows_known (state.seen me) (state.own me)) address
+IsKnownMapped me state (Address address) =
+    state.joined me ≡ true → LiesIn (rows_known (state.seen me) (state.own me)) address ⊎ LiesInMarked (marked_in me state) address
 IsKnownMapped me state _ = ⊤
 
 -- an address that it answers lies in a row of its own table
@@ -309,9 +322,10 @@ ChoosesPlaces me old new options places same from to = ChoosesBy me old new opti
 
 -- it knows in which heaps it looks for what a line made: the one in which its own line put it, for which nothing was done, or, for which it read
 -- the names, all that have a name
-abbrev pub FindsPlaces : ℕ → ParticipantView → ParticipantView → Maker → List SearchedHeap → Type 0 → HallState → HallState → Type 0
-FindsPlaces me old new maker places same from to =
-    if is_own_maker me maker
-    then (new ≡ old) × same
+abbrev pub FindsBy : Bool → ℕ → ParticipantView → ParticipantView → Maker → List SearchedHeap → Type 0 → HallState → HallState → Type 0
+FindsBy true me old new maker places same from to = (new ≡ old) × same
     × (places ≡ option_to_list (heap_of_element old.context.pools old.context.standing.elements (Some maker)))
-    else HasReadAll me old new places from to
+FindsBy false me old new maker places same from to = HasReadAll me old new places from to
+
+abbrev pub FindsPlaces : ℕ → ParticipantView → ParticipantView → Maker → List SearchedHeap → Type 0 → HallState → HallState → Type 0
+FindsPlaces me old new maker places same from to = FindsBy (is_own_maker me maker) me old new maker places same from to

@@ -4,13 +4,14 @@ use Rattle.std.specs.Option.{option_map}
 use Rattle.hp_hall.specs.Giving.{IsGiveOf}
 use Rattle.hp_hall.specs.HallState.{Did, HallState, OthersStay, SlotsStayBut, known_to}
 use Rattle.hp_hall.specs.Holding.{AgreeWith, HeapPart}
-use Rattle.hp_hall.specs.Named.{NamesGoOn, seen_of_names}
+use Rattle.hp_hall.specs.Named.{GivesNames}
 use Rattle.hp_hall.specs.Naming.{naming_of}
 use Rattle.hp_hall.specs.Telling.{has_names}
 use Rattle.hp_hall.specs.Values.{IsSoundKept}
 use Rattle.hp_hall.specs.declared.kept.Kept.TheVariants.{Names}
 use Rattle.hp_hall.specs.declared.slot.TheConstants.{NAMES_SLOT}
 use Rattle.hp_heap.specs.History.{HeapView}
+use Rattle.hp_heap.specs.declared.entry.Entry.{Entry}
 use Rattle.hp_proc.specs.Doing.{Doing}
 use Rattle.hp_proc.specs.ExternalAnswers.{IsHeapMeant}
 use Rattle.hp_proc.specs.Heaps.{sockets_of}
@@ -31,15 +32,20 @@ abbrev pub with_naming : HeapView → (ℕ → HeapPart) → ℕ → HeapPart
 with_naming heap parts index =
     if index == heap.plain.index then record (parts index) { naming = option_map (λ naming. naming_of heap.plain) (parts index).naming } else parts index
 
--- it has the names in hand, as they are by now: they were taken, as its steps tell, they are sound, they go on from the taken ones, and all other
--- slots are free; they opened with the heaps of the pools' sockets
+-- its entries in the heaps, as it gave them back last
+abbrev pub entries_in : ℕ → HallState → ℕ → List Entry
+entries_in me state heap = (state.part me heap).entries
+
+-- it has the names in hand, as they are by now: they were taken, as its steps tell, they are sound, they may be given in place of the taken ones,
+-- since each memzone that came in lies where an allocation of its own is home, and all other slots are free; they opened with the heaps of the
+-- pools' sockets
 pub record IsReadyNamed (me : ℕ) (doer : ParticipantView) (names : NamesView) (state : HallState) : Type 0 where
   pub but : IsReadyBut NAMES_SLOT me doer state
   pub told : has_names (state.done me) ≡ true
   pub was : NamesView
   pub taken : state.taken NAMES_SLOT ≡ Some (Names was)
   pub sound : IsSoundKept (Names names)
-  pub goes_on : NamesGoOn (seen_of_names was) (seen_of_names names)
+  pub goes_on : GivesNames (entries_in me state) was names
   pub agrees : AgreeWith (state.part me) names
   pub sockets : names.heaps.sockets ≡ sockets_of doer.context.pools
 
@@ -50,7 +56,7 @@ pub record HoldsNamed (me : ℕ) (doer : ParticipantView) (names : NamesView) (h
   pub was : NamesView
   pub taken : state.taken NAMES_SLOT ≡ Some (Names was)
   pub sound : IsSoundKept (Names names)
-  pub goes_on : NamesGoOn (seen_of_names was) (seen_of_names names)
+  pub goes_on : GivesNames (entries_in me state) was names
   pub agrees : AgreeWith (with_naming heap (state.part me)) names
   pub sockets : names.heaps.sockets ≡ sockets_of doer.context.pools
 

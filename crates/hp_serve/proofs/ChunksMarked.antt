@@ -73,8 +73,8 @@ module _ (marked after : ℕ → List Chunk) (rows : List Row) (index : ℕ) (ch
           All-weaker (Contains (after heap)) (λ (other : Chunk). filter (is_of_chunk other) (rows ++ rows_of_chunk chunk) ≡ rows_of_chunk other)
           (λ other there. rows_of_one heap other below (came_in heap other there)) (after heap) (All-contains_itself (after heap));
       only = λ row among. elim (Contains-append_cases rows (rows_of_chunk chunk) row among) [
-        | inl old ↦ (let one = has.only row old in (one.0, (one.1, (one.2, (kept_in one.0 one.1 one.3, one.4)))))
-        | inr new ↦ (index, (chunk, (low, (its, new))))
+        | inl old ↦ (let one = has.only row old in (one.0, one.1, one.2, kept_in one.0 one.1 one.3, one.4))
+        | inr new ↦ (index, chunk, low, its, new)
       ];
       distinct = λ heap next first second below few here there same.
           one_list heap next first second below few (came_in heap first here) (came_in next second there) same;
@@ -106,6 +106,10 @@ module _ (marked after : ℕ → List Chunk) (rows : List Row) (index : ℕ) (ch
     abbrev is_beside : Row → Bool
     is_beside row = not (is_of_chunk chunk row)
 
+    beside_it : (row : Row) → row.generation ≡ 0 → row.list ≡ chunk.list → is_beside row ≡ true → ⊥
+    beside_it row generation list beside =
+        true≢false (sym beside ∙ ap not (and_from (eqb row.generation 0) (eqb row.list chunk.list) (eq-eqb row.generation 0 generation) (eq-eqb row.list chunk.list list)))
+
     rows_stay : (heap : ℕ) (other : Chunk) → heap < MAX_HEAPS → Contains (marked heap) other → other.list ≢ chunk.list
         → filter (is_of_chunk other) (rows_beside chunk rows) ≡ rows_of_chunk other
     rows_stay heap other below there differs =
@@ -125,12 +129,8 @@ module _ (marked after : ℕ → List Chunk) (rows : List Row) (index : ℕ) (ch
           let one = has.only row found.1 in
           let of_it = row_of_its one.1 row one.4 in
           let differs : one.1.list ≢ chunk.list =
-          λ (same : one.1.list ≡ chunk.list). beside_it row one.1 of_it.generation (of_it.list ∙ same) found.0 in
-          (one.0, (one.1, (one.2, (kept_still one.0 one.1 one.3 differs, one.4)))));
+          λ (same : one.1.list ≡ chunk.list). beside_it row of_it.generation (of_it.list ∙ same) found.0 in
+          (one.0, one.1, one.2, kept_still one.0 one.1 one.3 differs, one.4));
       distinct = λ heap next first second below few here there same.
           has.distinct heap next first second below few (left_in heap first below here).0 (left_in next second few there).0 same;
     }
-      where
-        beside_it : (row : Row) (other : Chunk) → row.generation ≡ 0 → row.list ≡ chunk.list → is_beside row ≡ true → ⊥
-        beside_it row other generation list beside =
-            true≢false (sym beside ∙ ap not (and_from (eqb row.generation 0) (eqb row.list chunk.list) (eq-eqb row.generation 0 generation) (eq-eqb row.list chunk.list list)))

@@ -1,7 +1,7 @@
 -- A table is tied still where the rows of a chunk came to it with its mark, and where they went with it: the log's rows and its number stay.
-use Rattle.std.proofs.Common.{◌≡◌, ◌∙◌, ℕ, suc, zero, Bool, true, false, ◌&&◌, List, ◌++◌, append-nil, Contains, filter, not, refl, sym, ap, subst, arith, eqb}
+use Rattle.std.proofs.Common.{◌≡◌, ◌∙◌, ℕ, Bool, true, false, ◌&&◌, List, ◌++◌, append-nil, Contains, filter, not, refl, sym, ap, subst, arith, eqb}
 use Rattle.std.specs.Prelude.{nat_lt}
-use Rattle.std.proofs.lemmas.Bool.{and_left, false≢true}
+use Rattle.std.proofs.lemmas.Bool.{and_left, false≢true, ne_eqb}
 use Rattle.std.proofs.lemmas.List.Elements.{filter-append}
 use Rattle.hp_base.specs.declared.chunk.Chunk.{Chunk}
 use Rattle.hp_base.specs.declared.row.Row.{Row}
@@ -18,8 +18,7 @@ use Rattle.hp_serve.proofs.ChunksBeside.{row_of_its}
 use Rattle.hp_serve.specs.Tied.{HasChunks, IsTied}
 
 some_generation : (n : ℕ) → nat_lt 0 n ≡ true → eqb n 0 ≡ false
-some_generation zero is = absurd (false≢true is)
-some_generation (suc n) is = refl
+some_generation n is = ne_eqb n 0 (λ (same : n ≡ 0). false≢true (sym (ap (λ (m : ℕ). nat_lt 0 m) same) ∙ is))
 
 abbrev is_beside : Chunk → Row → Bool
 is_beside chunk row = not (is_of_chunk chunk row)

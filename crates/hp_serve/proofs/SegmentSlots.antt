@@ -1,5 +1,5 @@
 -- A participant takes the segment value, and gives it back.
-use Rattle.std.proofs.Common.{◌≡◌, ◌∙◌, ◌≤◌, ℕ, None, sym, arith}
+use Rattle.std.proofs.Common.{◌≡◌, ◌∙◌, ◌≤◌, ℕ, None, ap, sym, arith}
 use Rattle.hp_base.specs.declared.limits.TheConstants.{MAX_HEAPS}
 use Rattle.hp_hall.specs.Holding.{HeapPart, part_after}
 use Rattle.hp_hall.specs.HallCalls.{HasTaken}

@@ -1,5 +1,5 @@
 //! The end of a participant.
-ghost use Rattle.std.specs.Prelude.{◌≡◌, IfOk};
+ghost use Rattle.std.specs.Prelude.{◌≡◌, IfOk, IsOk};
 ghost use Rattle.hp_serve.specs.Ending.{LeavesTable};
 
 use super::Server;
@@ -21,8 +21,9 @@ impl<'p, M: Mapper> Server<'p, M> {
     }
 
     /// Ends the participant, and hands out its table as it stands, without a copy of its rows, and its watchers, each with what it was told.
-    /// It takes no memory. Own.
+    /// It is never refused. Own.
     pub fn end(self, _alloc: Global) -> Result<End, AllocError>
+        ensures always { IsOk result }
         ensures table { IfOk result (λ end. LeavesTable self.entry end.table) }
         ensures watchers { IfOk result (λ end. end.watchers.listeners ≡ self.entry.listeners) }
     {
