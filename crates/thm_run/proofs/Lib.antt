@@ -1,6 +1,7 @@
 pub mod InTurnByHolds
 pub mod TracesTold
 pub mod AnswersByTold
+pub mod AwaitedInOrder
 pub mod PathSteps
 pub mod LineSteps
 pub mod GrownHeaps

@@ -35,6 +35,13 @@ module _ (who : ℕ) where
       by_test true is = absurd (never (shown (eqb-true slot NAMES_SLOT is)))
       by_test false is = subst (λ (b : Bool). Along (cond b given (Names names)) steps last) is along
 
+  by_test : (given names : NamesView) (last : Kept) (steps : List MailStep) (b : Bool)
+      → (Along (Names given) steps last → Along (Names given) (steps_of_names steps) last)
+      → (Along (Names names) steps last → Along (Names names) (steps_of_names steps) last)
+      → Along (cond b (Names given) (Names names)) steps last → Along (cond b (Names given) (Names names)) (steps_of_names steps) last
+  by_test given names last steps true one other along = one along
+  by_test given names last steps false one other along = other along
+
   -- what its steps make of the names is what those on names make of them
   along_names : (names : NamesView) (last : Kept) (steps : List MailStep) → Along (Names names) steps last
       → Along (Names names) (steps_of_names steps) last
@@ -49,12 +56,8 @@ module _ (who : ℕ) where
       along_names names last steps (beside slot names (Heap heap pen) last steps (λ wrong. wrong) along.0 along.1)
   along_names names last (Gives slot (Segments segs) ∷ steps) along =
       along_names names last steps (beside slot names (Segments segs) last steps (λ wrong. wrong) along.0 along.1)
-  along_names names last (Gives slot (Names given) ∷ steps) along = (along.0, by_test (slot == NAMES_SLOT) along.1)
-    where
-      by_test : (b : Bool) → Along (cond b (Names given) (Names names)) steps last
-          → Along (cond b (Names given) (Names names)) (steps_of_names steps) last
-      by_test true rest = along_names given last steps rest
-      by_test false rest = along_names names last steps rest
+  along_names names last (Gives slot (Names given) ∷ steps) along =
+      (along.0, by_test given names last steps (slot == NAMES_SLOT) (along_names given last steps) (along_names names last steps) along.1)
 
 -- a trace reads no names, or first of all these, and no others
 abbrev pub ReadsOnce : NamesView → List Done → Type 0

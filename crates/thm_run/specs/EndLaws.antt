@@ -1,6 +1,6 @@
 -- What is true of every run of a workload in one thread: how it opens, goes on from line to line, and ends. The rule "Together" of
 -- docs/RUNS.md.
-use Rattle.std.specs.Prelude.{◌≡◌, ◌+◌, ◌<◌, ◌≤◌, ℕ, List, [], ◌∷◌, ◌++◌, length, map, true, Option, Some, slice_get, slice_index, ⊤}
+use Rattle.std.specs.Prelude.{◌≡◌, ◌+◌, ◌<◌, ◌≤◌, ℕ, List, [], ◌∷◌, ◌++◌, length, map, true, false, Option, Some, slice_get, slice_index, ⊤}
 use Rattle.std.specs.Int.{bit_at}
 use Rattle.std.specs.List.{Contains}
 use Rattle.hp_base.specs.Mapping.{FailingCall, FailsSo, may_fail_at}
@@ -89,6 +89,7 @@ pub record ServesBeside (count who : ℕ) (left : Standing) (old new : HallView)
   pub served : HasServed (denials_of left) count who old new party after
   pub same : IsSameParty party after
   pub tied : IsTied (seen_in new) (own_at new who) (λ heap. (part_in new who heap).marked) after.joined after.maps
+  pub left : after.joined ≡ false → (heap : ℕ) → (part_in new who heap).marked ≡ []
 
 -- all but those that are apart served, and did nothing else; that is left by their lines
 abbrev pub OthersServe : (ℕ → Type 0) → ℕ → (ℕ → Standing) → HallView → HallView → List Party → List Party → Type 0
@@ -99,7 +100,8 @@ OthersServe apart count left old new parties later = (who : ℕ) (party after : 
 abbrev pub tells_one_more : ℕ → ℕ → List MailStep
 tells_one_more who lines = Notes (LoadedDone who lines) ∷ (Notes (Stored (lines + 1)) ∷ [])
 
--- a participant does its line, and tells that one of its lines more is done then; its marks are on the chunks that it has noted
+-- a participant does its line, and tells that one of its lines more is done then; its marks are on the chunks that it has noted,
+-- and on none while it is out
 pub record DoesItsLine (workload : Workload) (old new : HallView) (line : Line) (answer : Answer) (doer after : ParticipantView) : Type 0
   where
     pub does : DoesLine workload.participants
@@ -109,6 +111,7 @@ pub record DoesItsLine (workload : Workload) (old new : HallView) (line : Line) 
     pub ready : MayDo (moment_of after (part_in new line.participant) (seen_in new) (heard_in new))
     pub tied : IsTied (seen_in new) (own_at new line.participant) (λ heap. (part_in new line.participant heap).marked) after.party.joined
         after.party.maps
+    pub left : after.party.joined ≡ false → (heap : ℕ) → (part_in new line.participant heap).marked ≡ []
     pub chunks : (heap : ℕ) → AreMarkedAs heap (part_in new line.participant heap).marked after.context.standing.chunks
     pub same : IsSameParty doer.party after.party
     pub told : lines_at new line.participant ≡ lines_at old line.participant + 1

@@ -1,6 +1,6 @@
 -- How far a workload was run, by all its participants in one thread: what holds between two of its lines. The rule "Together" of
 -- docs/RUNS.md.
-use Rattle.std.specs.Prelude.{◌≡◌, ℕ, ◌+◌, ◌<◌, ◌≤◌, true, List, [], ◌∷◌, length, Some, slice_get, slice_index, Contains}
+use Rattle.std.specs.Prelude.{◌≡◌, ℕ, ◌+◌, ◌<◌, ◌≤◌, true, false, List, [], ◌∷◌, length, Some, slice_get, slice_index, Contains}
 use Rattle.std.specs.List.{All}
 use Rattle.hp_base.specs.declared.limits.TheConstants.{MAX_HEAPS}
 use Rattle.hp_plain.specs.Course.{IsCourse}
@@ -107,6 +107,7 @@ pub record IsSoFarBy (workload : Workload) (courses : List Course) (parts : ℕ 
   pub asked : AreAsked log asks who 0 party.asked (trace_for who courses)
   pub ready : MayDo (moment_of (doer_of workload who courses party) parts log asks)
   pub tied : IsTied log own (λ heap. (parts heap).marked) party.joined party.maps
+  pub left : party.joined ≡ false → (heap : ℕ) → (parts heap).marked ≡ []
   pub chunks : (heap : ℕ) → AreMarkedAs heap (parts heap).marked (standing_of workload who courses).chunks
 
 -- how far a participant has come (`IsSoFarBy`), by what a hall of plain values shows of it

@@ -1,5 +1,5 @@
 -- A participant that served while another one did its line, or after the last line: what it knows and what the heaps have of it stays.
-use Rattle.std.proofs.Common.{◌≡◌, ◌∙◌, ℕ, true, List, ◌++◌, length, map, Option, Some, None, ap, sym, subst}
+use Rattle.std.proofs.Common.{◌≡◌, ◌∙◌, ℕ, true, false, List, [], ◌++◌, length, map, Option, Some, None, ap, sym, subst}
 use Rattle.std.specs.Prelude.{slice_get}
 use Rattle.std.specs.List.{list_any, range_with_len}
 use Rattle.std.specs.Option.{option_and_then}
@@ -57,7 +57,8 @@ module _ (workload : Workload) (courses later : List Course) (parties : List Par
       (late : slice_get next.seats who ≡ Some last) (party_is : seat.party ≡ party) (after_is : last.party ≡ after)
       (still : last.trace ≡ seat.trace) (its : IsSoFarFor workload courses old who party) (own : seat.trace ≡ trace_for who courses)
       (same : IsSameParty party after) (context : context_of workload who later ≡ context_of workload who courses)
-      (trace : trace_for who later ≡ trace_for who courses) (tied : IsTied (seen_in new) (own_at new who) (λ heap. (part_in new who heap).marked) after.joined after.maps) where
+      (trace : trace_for who later ≡ trace_for who courses) (tied : IsTied (seen_in new) (own_at new who) (λ heap. (part_in new who heap).marked) after.joined after.maps)
+      (out : after.joined ≡ false → (heap : ℕ) → (part_in new who heap).marked ≡ []) where
     -- the number of its last ask
     asked_same : after.asked ≡ party.asked
     asked_same =
@@ -138,6 +139,7 @@ module _ (workload : Workload) (courses later : List Course) (parties : List Par
       asked = subst (λ (trace : List Done). AreAsked (seen_in new) (heard_in new) who 0 after.asked trace) (sym trace) asked;
       ready = ready;
       tied = tied;
+      left = out;
       chunks = λ heap.
           ap (map (own_chunk heap)) (marks_rest who of old new course gives early_sound sound apart heap)
           ∙ its.chunks heap

@@ -136,7 +136,7 @@ module _ (workload : Workload) (courses : List Course) (parties behind : List Pa
       let served = serve who seat.it.party after (λ none. none) party_is at in
       known_still workload courses courses parties old new so course home now to_there all_came.gone.its (λ who. ⊥) gives who (λ none. none)
       seat.it.party after seat.it last.it seat.there last.there refl (same_Some last.it.party after (sym were.2 ∙ at)) still
-      (so.each who seat.it.party party_is) (so.seats who seat.it seat.there).trace served.same refl refl served.tied
+      (so.each who seat.it.party party_is) (so.seats who seat.it seat.there).trace served.same refl refl served.tied served.left
 
   -- the run of the servings, told as one of participant 0
   abbrev before : IsAt so.now.seats 0

@@ -230,6 +230,7 @@ module _ (workload : Workload) (held : List HeldHeap) (given : IsGiven workload)
           (all_alike (after_ack 0) workload.participants who) (ap (λ (maps : MapsView). maps.rows) its_maps ∙ is.rows)
           (ap (λ (maps : MapsView). maps.number) its_maps ∙ is.number)
           (omega (arith, ap (λ (maps : MapsView). maps.capacity) its_maps, is.room)));
+      left = λ out. first_unmarked workload held first_heaps who;
       chunks = λ heap. ap (map (own_chunk heap)) (first_unmarked workload held first_heaps who heap);
     }
 

@@ -1,5 +1,5 @@
 -- How far a workload was run, in a later hall: what its participants came to and what lines left, put together.
-use Rattle.std.proofs.Common.{◌≡◌, ◌∙◌, ℕ, ◌<◌, List, ◌++◌, length, Some, refl, ap, sym, arith}
+use Rattle.std.proofs.Common.{◌≡◌, ◌∙◌, ℕ, ◌<◌, false, List, [], ◌++◌, length, Some, refl, ap, sym, arith}
 use Rattle.std.specs.Prelude.{Contains, slice_get, slice_index}
 use Rattle.std.specs.List.{All}
 use Rattle.std.proofs.lemmas.Option.{slice_get_within, same_Some}
@@ -45,6 +45,7 @@ pub record IsKnownFor (workload : Workload) (courses : List Course) (hall : Hall
   pub asked : AreAsked (seen_in hall) (heard_in hall) who 0 party.asked (trace_for who courses)
   pub ready : MayDo (moment_of (doer_of workload who courses party) (part_in hall who) (seen_in hall) (heard_in hall))
   pub tied : IsTied (seen_in hall) (own_at hall who) (λ heap. (part_in hall who heap).marked) party.joined party.maps
+  pub left : party.joined ≡ false → (heap : ℕ) → (part_in hall who heap).marked ≡ []
   pub chunks : (heap : ℕ) → AreMarkedAs heap (part_in hall who heap).marked (standing_of workload who courses).chunks
 
 -- what lines left, in the names too, and that they were told to be done
@@ -90,6 +91,7 @@ module _ (workload : Workload) (courses later : List Course) (parties behind : L
         asked = its.asked;
         ready = its.ready;
         tied = its.tied;
+        left = its.left;
         chunks = its.chunks;
       }
 
