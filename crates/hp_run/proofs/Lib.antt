@@ -8,6 +8,7 @@ mod NextLine
 mod Knowing
 mod Beside
 mod Returning
+mod ToldLine
 mod OneMore
 mod Resting
 mod Ending
