@@ -28,7 +28,7 @@ use Rattle.hp_proc.specs.NamesLog.{changes_in, changes_made}
 use Rattle.hp_proc.specs.ParticipantView.{ParticipantView}
 use Rattle.hp_proc.specs.RunEnds.{did_of}
 use Rattle.hp_proc.specs.SharedNames.{no_changes}
-use Rattle.thm_run.specs.EndLaws.{FailsFor, IsFailedMapping, IsGiven, IsRefusedAttach}
+use Rattle.thm_run.specs.EndLaws.{FailsFor, IsFailedMapping, IsGiven, IsRefusedMapping}
 use Rattle.thm_run.specs.Handing.{HaveStatistics, HaveWatchers, listeners_in}
 use Rattle.thm_run.specs.Seats.{Seat}
 use Rattle.thm_run.specs.SoFar.{AreSoundNames, first_segs}
@@ -52,16 +52,16 @@ pub record MayFailAt (firsts : List ParticipantView) (participant call : ℕ) : 
   pub may : may_fail_at first.party.maps.may_fail call ≡ true
 
 -- mappings failed only at calls at which the mappers may that these participants brought, and at no call twice: for a growth, and for a
--- line that attaches
+-- line that attaches its participant, or a chunk
 pub record FailAsBrought (firsts : List ParticipantView) (courses : List Course) (asks : List AskLog) : Type 0 where
   pub failures : (entry : AskLog) (participant call : ℕ) → Contains asks entry → (failed : IsFailedMapping participant call entry)
       → MayFailSo firsts participant call failed.addr failed.got entry.ask
   pub once : (place other : ℕ) (entry second : AskLog) (participant call : ℕ) → slice_get asks place ≡ Some entry
       → slice_get asks other ≡ Some second → IsFailedMapping participant call entry → IsFailedMapping participant call second → place ≡ other
   pub refusals : (place : ℕ) (course : Course) (participant call : ℕ) → slice_get courses place ≡ Some course
-      → IsRefusedAttach participant call course → MayFailAt firsts participant call
+      → IsRefusedMapping participant call course → MayFailAt firsts participant call
   pub refused_once : (place other : ℕ) (course second : Course) (participant call : ℕ) → slice_get courses place ≡ Some course
-      → slice_get courses other ≡ Some second → IsRefusedAttach participant call course → IsRefusedAttach participant call second
+      → slice_get courses other ≡ Some second → IsRefusedMapping participant call course → IsRefusedMapping participant call second
       → place ≡ other
 
 -- What participants leave that began so and did their lines on threads: an end of the workload, with names that opened with the heaps of its sockets,

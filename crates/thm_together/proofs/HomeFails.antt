@@ -17,7 +17,7 @@ use Rattle.thm_run.proofs.FailuresNamed.Refusals.{attached_so, refused_by_reason
 use Rattle.thm_run.proofs.FailuresNamed.RefusedLines.{places_same, shows_in}
 use Rattle.thm_run.proofs.RunFacts.RunCauses as causes
 use Rattle.thm_run.proofs.Settings.{IsSeatAt, may_fail_stays, seat_at}
-use Rattle.thm_run.specs.EndLaws.{FailsFor, IsRefusedAttach}
+use Rattle.thm_run.specs.EndLaws.{FailsFor, IsRefusedMapping}
 use Rattle.thm_together.specs.CameHome.{AllCameHome}
 use Rattle.thm_together.specs.Failing.{FailsOnceWhereHome, FailsWhereHome, RefusesOnceWhereHome, RefusesWhereHome}
 use Rattle.thm_together.proofs.HomeAsks.{trace_is}
@@ -54,8 +54,8 @@ module _ (workload : Workload) (answers : List Answer) (heaps : List HeapView) (
   own_is : courses_of participant courses ≡ home.courses participant
   own_is = (are_woven workload answers heaps segs tables home).own participant
 
-  -- who was refused an attach is declared
-  declared : (place : ℕ) (course : Course) → slice_get courses place ≡ Some course → IsRefusedAttach participant call course
+  -- who was refused a mapping in a line is declared
+  declared : (place : ℕ) (course : Course) → slice_get courses place ≡ Some course → IsRefusedMapping participant call course
       → participant < workload.participants
   declared place course there refused =
       subst (λ who. who < workload.participants) refused.who
