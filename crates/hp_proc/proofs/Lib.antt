@@ -3,6 +3,7 @@ pub mod AllocFacts
 pub mod AttachedLines
 pub mod HandFacts
 pub mod ChosenHeaps
+pub mod ChunkLies
 mod ChunksLeft
 pub mod Continued
 pub mod FoundZones
@@ -14,16 +15,20 @@ pub mod LawLemmas
 pub mod LeastData
 pub mod LineEnds
 pub mod LineFacts
+pub mod LinesApart
 pub mod LinesInHall
 pub mod LinesOrdered
+pub mod Lookups
 pub mod MadeHeaps
 pub mod Makers
 pub mod Mapped
 mod MarksApart
 mod MayAttachHere
 pub mod MeantHeaps
+pub mod NamedPlaces
 pub mod NamesFollow
 pub mod NamesAround
+pub mod WhosePages
 mod NamesHeld
 mod NamesRead
 pub mod NotedCame
@@ -31,12 +36,13 @@ pub mod NotedLeft
 pub mod Noted
 pub mod OrdinaryElements
 pub mod PagesStay
+pub mod PlacesRead
 pub mod Plans
 mod PoolsFrom
 mod Registered
 mod RegisteredHere
 pub mod RegisteredLines
-mod ReleasedMemory
+pub mod ReleasedMemory
 pub mod ServesAside
 pub mod WaitsAside
 mod SharedMarks
@@ -46,5 +52,6 @@ pub mod SocketHeapLemmas
 pub mod SocketNames
 mod StatsLines
 pub mod StepsOrdered
+pub mod TreeDeeds
 pub mod Unarmed
 pub mod WorkedLines

@@ -13,3 +13,5 @@ pub mod WayReads
 pub mod StatsHanded
 pub mod StatsAtBoard
 pub mod ThreadsStats
+mod FirstLines
+mod SeatsTold

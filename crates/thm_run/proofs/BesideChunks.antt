@@ -22,60 +22,45 @@ use Rattle.hp_serve.proofs.ChunksTied.{table_more}
 
 module _ {X : Type 0} (q : X → Bool) where
   -- those that pass a test, passed through it again
+  again_one : (x : X) (rest : List X) (b : Bool) → q x ≡ b → filter q rest ≡ rest → filter q (cond b (x ∷ rest) rest) ≡ cond b (x ∷ rest) rest
+  again_one x rest true is further =
+      ap (λ (b : Bool). cond b (x ∷ filter q rest) (filter q rest)) is ∙ ap (λ (l : List X). x ∷ l) further
+  again_one x rest false is further = further
+
   again : (xs : List X) → filter q (filter q xs) ≡ filter q xs
   again [] = refl
-  again (x ∷ xs) = by_test (q x) refl
-    where
-      by_test : (b : Bool) → q x ≡ b → filter q (cond (q x) (x ∷ filter q xs) (filter q xs)) ≡ cond (q x) (x ∷ filter q xs) (filter q xs)
-      by_test true is =
-          ap (λ (b : Bool). filter q (cond b (x ∷ filter q xs) (filter q xs))) is
-          ∙ (ap (λ (b : Bool). cond b (x ∷ filter q (filter q xs)) (filter q (filter q xs))) is
-          ∙ (ap (λ (l : List X). x ∷ l) (again xs) ∙ sym (ap (λ (b : Bool). cond b (x ∷ filter q xs) (filter q xs)) is)))
-      by_test false is =
-          ap (λ (b : Bool). filter q (cond b (x ∷ filter q xs) (filter q xs))) is
-          ∙ (again xs ∙ sym (ap (λ (b : Bool). cond b (x ∷ filter q xs) (filter q xs)) is))
+  again (x ∷ xs) = again_one x (filter q xs) (q x) refl (again xs)
 
   -- none of them fails it
+  none_one : (x : X) (rest : List X) (b : Bool) → q x ≡ b → filter (λ x. not (q x)) rest ≡ [] → filter (λ x. not (q x)) (cond b (x ∷ rest) rest) ≡ []
+  none_one x rest true is further =
+      ap (λ (b : Bool). cond (not b) (x ∷ filter (λ x. not (q x)) rest) (filter (λ x. not (q x)) rest)) is ∙ further
+  none_one x rest false is further = further
+
   none_fails : (xs : List X) → filter (λ x. not (q x)) (filter q xs) ≡ []
   none_fails [] = refl
-  none_fails (x ∷ xs) = by_test (q x) refl
-    where
-      by_test : (b : Bool) → q x ≡ b → filter (λ x. not (q x)) (cond (q x) (x ∷ filter q xs) (filter q xs)) ≡ []
-      by_test true is =
-          ap (λ (b : Bool). filter (λ x. not (q x)) (cond b (x ∷ filter q xs) (filter q xs))) is
-          ∙ (ap (λ (b : Bool). cond (not b) (x ∷ filter (λ x. not (q x)) (filter q xs)) (filter (λ x. not (q x)) (filter q xs))) is
-          ∙ none_fails xs)
-      by_test false is =
-          ap (λ (b : Bool). filter (λ x. not (q x)) (cond b (x ∷ filter q xs) (filter q xs))) is ∙ none_fails xs
+  none_fails (x ∷ xs) = none_one x (filter q xs) (q x) refl (none_fails xs)
 
   -- where none fails it, they are all
+  all_one : (x : X) (xs : List X) (b : Bool) → q x ≡ b
+      → cond (not b) (x ∷ filter (λ x. not (q x)) xs) (filter (λ x. not (q x)) xs) ≡ [] → (filter (λ x. not (q x)) xs ≡ [] → filter q xs ≡ xs)
+      → cond b (x ∷ filter q xs) (filter q xs) ≡ x ∷ xs
+  all_one x xs true is none further = ap (λ (l : List X). x ∷ l) (further none)
+  all_one x xs false is none further = cc
+
   all_pass : (xs : List X) → filter (λ x. not (q x)) xs ≡ [] → filter q xs ≡ xs
   all_pass [] none = refl
-  all_pass (x ∷ xs) none = by_test (q x) refl
-    where
-      by_test : (b : Bool) → q x ≡ b → filter q (x ∷ xs) ≡ x ∷ xs
-      by_test true is =
-          ap (λ (b : Bool). cond b (x ∷ filter q xs) (filter q xs)) is
-          ∙ ap (λ (l : List X). x ∷ l)
-          (all_pass xs
-          (sym (ap (λ (b : Bool). cond (not b) (x ∷ filter (λ x. not (q x)) xs) (filter (λ x. not (q x)) xs)) is) ∙ none))
-      by_test false is =
-          let some : x ∷ filter (λ x. not (q x)) xs ≡ [] =
-          sym (ap (λ (b : Bool). cond (not b) (x ∷ filter (λ x. not (q x)) xs) (filter (λ x. not (q x)) xs)) is) ∙ none in
-          cc
+  all_pass (x ∷ xs) none = all_one x xs (q x) refl none (all_pass xs)
 
   -- what passes it is found among them as among all
+  found_one : (p : X → Bool) → ((x : X) → q x ≡ false → p x ≡ false) → (x : X) (xs : List X) (b : Bool) → q x ≡ b
+      → find p xs ≡ find p (filter q xs) → find p (x ∷ xs) ≡ find p (cond b (x ∷ filter q xs) (filter q xs))
+  found_one p out x xs true is further = ap (cond (p x) (Some x)) further
+  found_one p out x xs false is further = ap (λ (b : Bool). cond b (Some x) (find p xs)) (out x is) ∙ further
+
   found_alike : (p : X → Bool) → ((x : X) → q x ≡ false → p x ≡ false) → (xs : List X) → find p xs ≡ find p (filter q xs)
   found_alike p out [] = refl
-  found_alike p out (x ∷ xs) = by_test (q x) refl
-    where
-      by_test : (b : Bool) → q x ≡ b → find p (x ∷ xs) ≡ find p (cond (q x) (x ∷ filter q xs) (filter q xs))
-      by_test true is =
-          ap (λ (l : Option X). cond (p x) (Some x) l) (found_alike p out xs)
-          ∙ sym (ap (λ (b : Bool). find p (cond b (x ∷ filter q xs) (filter q xs))) is)
-      by_test false is =
-          ap (λ (b : Bool). cond b (Some x) (find p xs)) (out x is)
-          ∙ (found_alike p out xs ∙ sym (ap (λ (b : Bool). find p (cond b (x ∷ filter q xs) (filter q xs))) is))
+  found_alike p out (x ∷ xs) = found_one p out x xs (q x) refl (found_alike p out xs)
 
 pub table_twice : (rows : List Row) → table_in (table_in rows) ≡ table_in rows
 table_twice = again is_of_log

@@ -31,7 +31,7 @@ use Rattle.hp_script.specs.declared.line.Act.TheVariants as act
 use Rattle.hp_segs.specs.LogPlaces.{LogIsPlaced, places_of}
 use Rattle.hp_segs.specs.SegsView.{SegsView}
 use Rattle.hp_segs.specs.Sound.{IsSound}
-use Rattle.hp_serve.proofs.ChunksTied.{table_left}
+use Rattle.hp_serve.proofs.ChunksTied.{table_left as rows_left}
 use Rattle.hp_serve.proofs.HearsLemmas.{hears_caught, hears_rows}
 use Rattle.hp_serve.specs.Attaching.{Attaches, after_detaching, emptied, table_left}
 use Rattle.hp_serve.specs.Party.{Party, with_maps}
@@ -257,7 +257,7 @@ quietly_watched log (Quietly.plans_range seat addr len page plan) was = was
 quietly_watched log (Quietly.maps_chunk seat chunk maps ended is) was =
     chunk_watched log maps seat.party seat.standing.watchers (ap table_in is.rows ∙ mapped_alike seat.party.maps.rows chunk ended) is.others.number was
 quietly_watched log (Quietly.leaves_chunk seat chunk maps is) was =
-    chunk_watched log maps seat.party seat.standing.watchers (ap table_in is.rows ∙ table_left chunk seat.party.maps.rows) is.others.number was
+    chunk_watched log maps seat.party seat.standing.watchers (ap table_in is.rows ∙ rows_left chunk seat.party.maps.rows) is.others.number was
 quietly_watched log (Quietly.ends_line seat deed given) was = ended_watched log deed given seat.party seat.standing.watchers was
 
 pub mails_watched : {who : ℕ} {old new : Seat} {step : MailStep} (log : List LogRecord) → Mails who old new step → IsWatched log old

@@ -35,7 +35,8 @@ pub fn failure_law()
     ensures once { FailsOnce }
 {}
 
-/// An attach was refused at a call at which its participant's mapper may fail, and at most one was refused by one call. Own.
+/// A line that attaches its participant, or a chunk, was refused at a call at which its participant's mapper may fail, and at most one was
+/// refused by one call. Own.
 pub fn refusal_law()
     ensures fails { RefusesByReason }
     ensures once { RefusesOnce }

@@ -30,14 +30,14 @@ pub acts_handed : {count : ℕ} {hand last : Option ℕ} {held : List ℕ} {doer
     (names : NamesView) → Acts count hand last held doer after trace steps → AreTakenSo names steps → AllByRecursion (IsHandedSo names) trace
 acts_handed names (Acts.nothing hand doer) taken = tt
 acts_handed names (Acts.waits_turn until doer after moved steps turned) taken = tt
-acts_handed names (Acts.takes_heap doer heap pen) taken = tt
+acts_handed names (Acts.takes_heap doer heap pen few) taken = tt
 acts_handed names (Acts.gives_heap doer heap pen) taken = tt
 acts_handed names (Acts.makes_call doer heap call answer none) taken = (tt, tt)
 acts_handed names (Acts.cuts_run doer heap addr run cut) taken = (tt, tt)
 acts_handed names (Acts.asks_pages doer after asked run steps asks) taken = (tt, tt)
 acts_handed names (Acts.notifies_run doer after heap run steps notifies) taken = (tt, tt)
 acts_handed names (Acts.attaches doer after was caught attaches) taken = (tt, (tt, tt))
-acts_handed names (Acts.detaches doer was told above heard) taken = tt
+acts_handed names (Acts.detaches doer was told above left bare heard) taken = tt
 acts_handed names (Acts.notes_left doer elements) taken = tt
 acts_handed names (Acts.reads_names doer read) taken = (ap (λ (names : NamesView). shared_of names) (taken.0 refl), tt)
 acts_handed names (Acts.looks_up_lines doer other lines) taken = tt

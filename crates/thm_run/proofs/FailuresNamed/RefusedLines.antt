@@ -15,7 +15,7 @@ use Rattle.hp_proc.specs.Courses.{Standing, after_line}
 use Rattle.hp_proc.specs.Doing.{Doing, Leads}
 use Rattle.hp_proc.specs.LinesDone.{AreDone, Course, IsDone, courses_of, trace_of}
 use Rattle.hp_proc.specs.Handed.{calls_failed}
-use Rattle.thm_run.specs.EndLaws.{IsRefusedAttach}
+use Rattle.thm_run.specs.EndLaws.{IsRefusedMapping}
 use Rattle.thm_run.specs.SoFar.{trace_for}
 use Rattle.thm_run.proofs.LineSteps.LineTries.{line_refused}
 use Rattle.thm_run.proofs.FailuresNamed.RefusedCalls.{refusals_both}
@@ -51,19 +51,19 @@ rise_from xs rising i j before within = AllPairs-from_increasing xs rising i j 0
 
 module _ (workload : Workload) (who call : ℕ) where
   -- a line that attaches and is refused shows that call alone
-  shows_call : (standing : Standing) (course : Course) → IsDone workload standing course → IsRefusedAttach who call course
+  shows_call : (standing : Standing) (course : Course) → IsDone workload standing course → IsRefusedMapping who call course
       → calls_failed course.trace ≡ call ∷ []
   shows_call standing course done refused =
       line_refused course.line done.facts call course.trace refused.act
       (subst (λ (given : Answer). Leads (doing_of course.line course.line.act done.facts) course.trace (Doing.Ended given)) refused.answer
       done.does)
 
-  is_own : (course : Course) → IsRefusedAttach who call course → (course.line.participant == who) ≡ true
+  is_own : (course : Course) → IsRefusedMapping who call course → (course.line.participant == who) ≡ true
   is_own course refused = eq-eqb course.line.participant who refused.who
 
   -- each such line shows its call in what was done for the participant's lines
   pub shows_in : (standing : Standing) (courses : List Course) → AreDone workload standing (courses_of who courses) → (place : ℕ)
-      (course : Course) → slice_get courses place ≡ Some course → IsRefusedAttach who call course
+      (course : Course) → slice_get courses place ≡ Some course → IsRefusedMapping who call course
       → Contains (calls_failed (trace_for who courses)) call
   shows_in standing [] done place course here refused = cc
   shows_in standing (first ∷ courses) done place course here refused =
@@ -80,7 +80,7 @@ module _ (workload : Workload) (who call : ℕ) where
           let both : AreDone workload standing (first ∷ courses_of who courses) =
           subst (AreDone workload standing) (trace_own who first courses own) done in
           let shown : calls_failed first.trace ≡ call ∷ [] =
-          shows_call standing first both.0 (subst (IsRefusedAttach who call) (sym same) refused) in
+          shows_call standing first both.0 (subst (IsRefusedMapping who call) (sym same) refused) in
           subst (λ calls. Contains calls call) (sym (refusals_both first.trace (trace_for who courses)))
           (Contains-append_left (calls_failed first.trace) (calls_failed (trace_for who courses)) call
           (subst (λ calls. Contains calls call) (sym shown) (Contains-here call [])))
@@ -98,7 +98,7 @@ module _ (workload : Workload) (who call : ℕ) where
           → Contains (calls_failed (trace_for who courses)) call
       other_first further other zero at_first =
           let same : first ≡ course = cc in
-          let wrong : true ≡ false = sym (is_own first (subst (IsRefusedAttach who call) (sym same) refused)) ∙ other in
+          let wrong : true ≡ false = sym (is_own first (subst (IsRefusedMapping who call) (sym same) refused)) ∙ other in
           cc
       other_first further other (suc place) later =
           further standing (subst (AreDone workload standing) (trace_other who first courses other) done) place later
@@ -118,7 +118,7 @@ module _ (workload : Workload) (who call : ℕ) where
   -- where the calls rise, two such lines of one call are one line
   lines_same : (standing : Standing) (courses : List Course) → AreDone workload standing (courses_of who courses)
       → Rises (calls_failed (trace_for who courses)) → (place other : ℕ) (course second : Course) → slice_get courses place ≡ Some course
-      → slice_get courses other ≡ Some second → IsRefusedAttach who call course → IsRefusedAttach who call second → place ≡ other
+      → slice_get courses other ≡ Some second → IsRefusedMapping who call course → IsRefusedMapping who call second → place ≡ other
   lines_same standing [] done rise place other course second here there refused too = cc
   lines_same standing (first ∷ courses) done rise place other course second here there refused too =
       by_whose
@@ -126,8 +126,8 @@ module _ (workload : Workload) (who call : ℕ) where
       (cases_Bool (first.line.participant == who))
     where
       -- a line that shows the call stands first, and another one after it
-      never : (own : (first.line.participant == who) ≡ true) → IsRefusedAttach who call first → (behind : ℕ) (one : Course)
-          → slice_get courses behind ≡ Some one → IsRefusedAttach who call one → ⊥
+      never : (own : (first.line.participant == who) ≡ true) → IsRefusedMapping who call first → (behind : ℕ) (one : Course)
+          → slice_get courses behind ≡ Some one → IsRefusedMapping who call one → ⊥
       never own its behind one at_one refused =
           let both : AreDone workload standing (first ∷ courses_of who courses) =
           subst (AreDone workload standing) (trace_own who first courses own) done in
@@ -145,10 +145,10 @@ module _ (workload : Workload) (who call : ℕ) where
       own_first further own zero zero at_one at_other = refl
       own_first further own zero (suc other) at_one at_other =
           let same : first ≡ course = cc in
-          absurd (never own (subst (IsRefusedAttach who call) (sym same) refused) other second at_other too)
+          absurd (never own (subst (IsRefusedMapping who call) (sym same) refused) other second at_other too)
       own_first further own (suc place) zero at_one at_other =
           let same : first ≡ second = cc in
-          absurd (never own (subst (IsRefusedAttach who call) (sym same) too) place course at_one refused)
+          absurd (never own (subst (IsRefusedMapping who call) (sym same) too) place course at_one refused)
       own_first further own (suc place) (suc other) at_one at_other =
           let both : AreDone workload standing (first ∷ courses_of who courses) =
           subst (AreDone workload standing) (trace_own who first courses own) done in
@@ -160,7 +160,7 @@ module _ (workload : Workload) (who call : ℕ) where
           (rises_behind (calls_failed first.trace) (calls_failed (trace_for who courses))
           (subst Rises calls rise)) place other at_one at_other)
 
-      not_its : (other : (first.line.participant == who) ≡ false) → IsRefusedAttach who call first → ⊥
+      not_its : (other : (first.line.participant == who) ≡ false) → IsRefusedMapping who call first → ⊥
       not_its other its =
           let wrong : true ≡ false = sym (is_own first its) ∙ other in
           cc
@@ -172,10 +172,10 @@ module _ (workload : Workload) (who call : ℕ) where
           → slice_get (first ∷ courses) other ≡ Some second → place ≡ other
       other_first further apart zero other at_one at_other =
           let same : first ≡ course = cc in
-          absurd (not_its apart (subst (IsRefusedAttach who call) (sym same) refused))
+          absurd (not_its apart (subst (IsRefusedMapping who call) (sym same) refused))
       other_first further apart (suc place) zero at_one at_other =
           let same : first ≡ second = cc in
-          absurd (not_its apart (subst (IsRefusedAttach who call) (sym same) too))
+          absurd (not_its apart (subst (IsRefusedMapping who call) (sym same) too))
       other_first further apart (suc place) (suc other) at_one at_other =
           ap suc
           (further standing (subst (AreDone workload standing) (trace_other who first courses apart) done)
@@ -189,8 +189,8 @@ module _ (workload : Workload) (who call : ℕ) where
 
   pub places_same : (standing : Standing) (courses : List Course) → AreDone workload standing (courses_of who courses)
       → IsStrictlyIncreasing (calls_failed (trace_for who courses)) → (place other : ℕ) (course second : Course)
-      → slice_get courses place ≡ Some course → slice_get courses other ≡ Some second → IsRefusedAttach who call course
-      → IsRefusedAttach who call second → place ≡ other
+      → slice_get courses place ≡ Some course → slice_get courses other ≡ Some second → IsRefusedMapping who call course
+      → IsRefusedMapping who call second → place ≡ other
   places_same standing courses done rising place other course second here there refused too =
       lines_same standing courses done (rise_from (calls_failed (trace_for who courses)) rising) place other course second here there refused
       too

@@ -59,10 +59,10 @@ module _ (workload : Workload) (courses : List Course) (parties : List Party) (h
         asks.causes workload.participants workload.absent workload.pools.items so.first so.now so.is_first (run_of so.runs) workload.deadline
         deadlines workload refl refl (ended_so_far workload courses parties hall so);
     seen = seen_each so.now.segs.log so.now.segs.asks (length so.now.segs.log) courses so.seen;
-    refusals = refused_so_far;
+    failed = refused_so_far;
   }
 
 -- after the last line a run has come to the end of its workload
 pub so_far_ends : EndsSo
 so_far_ends workload courses answers parties hall heaps segs tables given so is =
-    ends_by workload courses answers parties hall heaps segs tables so is (known_so_far workload courses parties hall so)
+    ends_by workload courses answers parties hall heaps segs tables given so is (known_so_far workload courses parties hall so)

@@ -1,5 +1,5 @@
 -- What a participant does of its line is a path.
-use Rattle.std.proofs.Common.{◌≡◌, ◌≢◌, ◌∙◌, ℕ, ◌<◌, ◌≤◌, false, List, [], ◌∷◌, ◌++◌, Option, append-nil, append_assoc, length, None, refl, ap, sym, subst, arith}
+use Rattle.std.proofs.Common.{◌≡◌, ◌≢◌, ◌∙◌, ℕ, ◌<◌, ◌≤◌, false, List, [], ◌∷◌, ◌++◌, Option, append-nil, append_assoc, length, None, Result, Ok, refl, ap, sym, subst, arith}
 use Rattle.hp_base.specs.declared.caught.Caught.{Caught}
 use Rattle.hp_base.specs.declared.chunk.Chunk.{Chunk}
 use Rattle.hp_base.specs.declared.row.Run.{Run}
@@ -18,15 +18,16 @@ use Rattle.hp_maps.specs.MapsView.{MapsView, chunk_rows}
 use Rattle.hp_script.specs.declared.answer.Answer.{Answer}
 use Rattle.hp_script.specs.declared.line.Act.{Act}
 use Rattle.hp_segs.specs.LaterSteps.{after_leave}
-use Rattle.hp_segs.specs.Ranges.{after_claim_range, after_release_range}
+use Rattle.hp_segs.specs.Ranges.{after_claim_range, after_release_range, range_plan}
 use Rattle.hp_segs.specs.SegsView.{SegsView}
 use Rattle.hp_segs.specs.Steps.{after_retire}
 use Rattle.hp_segs.specs.declared.external_range.ExternalRange.{ExternalRange}
+use Rattle.hp_segs.specs.declared.fault.RangeFault.{RangeFault}
 use Rattle.hp_proc.specs.Acting.{Acts}
 use Rattle.hp_serve.specs.Attaching.{Attaches, after_attaching, after_detaching}
 use Rattle.hp_proc.specs.Courses.{Standing, numbered_in, standing_tried}
 use Rattle.hp_proc.specs.Doing.{Done}
-use Rattle.hp_proc.specs.Doing.Done.{Called, CaughtUp, ChunkMapped, HeapSeen, Looked, NamesChanged, NamesRead, StatsRead}
+use Rattle.hp_proc.specs.Doing.Done.{Called, CaughtUp, ChunkMapped, HeapSeen, Looked, NamesChanged, NamesRead, RangePlanned, StatsRead}
 use Rattle.hp_proc.specs.Handing.{counted_in, shared_of}
 use Rattle.hp_proc.specs.MappedChunks.{LeavesChunk, MapsChunk}
 use Rattle.hp_proc.specs.OwnChunks.{own_chunk, with_own_chunk, without_own_chunk}
@@ -195,6 +196,23 @@ module _ (count who : ℕ) where
         path = SeatTrace.holds (seated_as doer seat) (seated_as doer behind) (Takes heap.plain.index (Heap heap pen)) [] tt
             (path_quiet count who (seated_as doer seat) (seated_as doer behind)
             (Quietly.sees_heap (seated_as doer seat) heap.plain.index heap.history));
+      }
+
+  -- it was handed the plan of the segment value for memory
+  plans_acted : (doer : ParticipantView) (addr len page : ℕ) (plan : Result ℕ RangeFault) (more : List Done) (after : ParticipantView)
+      (steps : List MailStep) (seat : Seat)
+      → ActedAs count who doer after more steps (record seat { trace = seat.trace ++ RangePlanned addr len page plan ∷ [] })
+      → ActedAs count who doer after (RangePlanned addr len page plan ∷ more) steps seat
+  plans_acted doer addr len page plan more after steps seat acted =
+      let planned : Seat = record seat { trace = seat.trace ++ RangePlanned addr len page plan ∷ [] } in
+      record {
+        behind = acted.behind;
+        me = acted.me;
+        deadline = acted.deadline;
+        lines = acted.lines;
+        trace = acted.trace ∙ append_assoc seat.trace (RangePlanned addr len page plan ∷ []) more;
+        path = SeatTrace.quietly (seated_as doer seat) (seated_as doer planned) (seated_as after acted.behind) steps
+            (Quietly.plans_range (seated_as doer seat) addr len page plan) acted.path;
       }
 
   -- external memory came or went, which the names and a call of the heap say
@@ -392,10 +410,20 @@ module _ (count who : ℕ) where
   acting_path _ _ _ _ _ _ _ (Acts.looks_at_segs doer heap taken) me long seat =
       heap_acted doer _ seat
       (path_handle count who (seated_as doer seat) (seated_as doer seat) taken taken (Handles.looks (seated_as doer seat) taken))
+  acting_path _ _ _ _ _ _ _ (Acts.plans_range doer heap addr len page taken) me long seat =
+      let planned : Seat = record seat { trace = seat.trace ++ RangePlanned addr len page (range_plan addr len page taken) ∷ [] } in
+      plans_acted doer addr len page (range_plan addr len page taken) [] doer (takes_segments taken ∷ gives_segments taken ∷ []) seat
+      (heap_acted doer (takes_segments taken ∷ gives_segments taken ∷ []) planned
+      (path_handle count who (seated_as doer planned) (seated_as doer planned) taken taken (Handles.looks (seated_as doer planned) taken)))
   acting_path _ _ _ _ _ _ _ (Acts.claims doer heap chunk taken plan) me long seat =
-      ranges_acted doer (OfHeaps (Range heap chunk.addr chunk.len chunk.page)) heap (call.Chunk chunk) taken
+      plans_acted doer chunk.addr chunk.len chunk.page (Ok chunk.list)
+      (NamesChanged (OfHeaps (Range heap chunk.addr chunk.len chunk.page)) ∷ Called heap (call.Chunk chunk) gives.Done ∷ []) (after_call doer)
+      (takes_segments taken
+      ∷ gives_segments (after_claim_range chunk.list chunk.addr chunk.len chunk.page chunk.socket taken) ∷ []) seat
+      (ranges_acted doer (OfHeaps (Range heap chunk.addr chunk.len chunk.page)) heap (call.Chunk chunk) taken
       (after_claim_range chunk.list chunk.addr chunk.len chunk.page chunk.socket taken).ranges
-      (MovesRanges.comes chunk.list chunk.addr chunk.len chunk.page chunk.socket plan) seat
+      (MovesRanges.comes chunk.list chunk.addr chunk.len chunk.page chunk.socket plan)
+      (record seat { trace = seat.trace ++ RangePlanned chunk.addr chunk.len chunk.page (Ok chunk.list) ∷ [] }))
   acting_path _ _ _ _ _ _ _ (Acts.releases doer heap chunk taken) me long seat =
       ranges_acted doer (OfHeaps (RangeGone heap chunk.addr)) heap (call.Unchunk chunk.addr chunk.len) taken
       (after_release_range chunk.list taken).ranges (MovesRanges.goes chunk.list) seat

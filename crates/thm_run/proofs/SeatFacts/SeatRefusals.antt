@@ -231,5 +231,5 @@ handles_more (Handles.claims seat segs) = did_none segs.log seat seat refl refl 
 handles_more (Handles.settles seat segs since now late) = did_none segs.log seat seat refl refl refl
 handles_more (Handles.cuts seat segs heap addr run) = did_one segs.log seat _ _ refl refl tt refl
 handles_more (Handles.attaches seat segs ended after tried) = attaching_more segs.log seat _ ended after tried refl refl
-handles_more (Handles.detaches seat segs told secondary none heard) =
+handles_more (Handles.detaches seat segs told secondary bare heard) =
     did_none segs.log seat _ refl refl refl

@@ -82,7 +82,8 @@ handles_gone : (seats : List Seat) (count by : ℕ) (old new : Seat) (taken give
     → AreCutSince past (trace_in (slice_get seats who)) → HasArmedGrowth taken → AreGone who base past seats taken
     → AreGone who base past seats given
 handles_gone seats count by old new _ _ (Handles.looks seat segs) there traced fetched who base past cut armed was = was
-handles_gone seats count by old new _ _ (Handles.moves_ranges seat segs ranges moves) there traced fetched who base past cut armed was = was
+handles_gone seats count by old new _ _ (Handles.moves_ranges seat segs ranges moves) there traced fetched who base past cut armed was =
+    record { low = was.low; since = record { more = was.since.more; is = was.since.is; going = was.since.going }; freed = was.freed }
 handles_gone seats count by _ _ _ _ (Handles.steps seat segs event core is its knows denied may) there traced fetched who base past cut armed was =
     gone_event seats by seat there traced fetched who base past cut segs armed was denied event core its
     (brought seats by seat there traced fetched who base past cut count event knows)
