@@ -98,7 +98,12 @@ marks_at chair slot (Names names) fits own = tt
 
 -- what a taker learns does not say what it has published
 stands_at : (who : ℕ) (chair : ChairView) (kept : Kept) → StandsFor who (heap_part chair.seat.mine) kept → StandsFor who (chair_part chair) kept
-stands_at who chair (Heap heap pen) stands = record { serves = stands.serves; held = stands.held; named = stands.named }
+stands_at who chair (Heap heap pen) stands = record {
+  serves = stands.serves;
+  held = stands.held;
+  named = stands.named;
+  claimed = stands.claimed;
+}
 stands_at who chair (Segments segs) stands =
     record {
       held = stands.held;
@@ -107,6 +112,8 @@ stands_at who chair (Segments segs) stands =
       sound = stands.sound;
       pending = stands.pending;
       claims = stands.claims;
+      marked = stands.marked;
+      named = stands.named;
     }
 stands_at who chair (Names names) stands = record {
   namings = stands.namings;

@@ -1,5 +1,5 @@
 -- A participant that has the segment value in hand may attach a chunk whose memory is claimed, where it has its mark on none of that list.
-use Rattle.std.proofs.Common.{◌≡◌, ◌≢◌, ◌⊎◌, ℕ, ◌+◌, ◌/◌, ◌<◌, ◌≤◌, ◌^◌, ◌∙◌, Bool, List, ◌∷◌, ◌++◌, Contains, cond, length, length-append, refl, sym, ap, subst, arith, eqb, eq-eqb, inl, inr, ⊎_elim}
+use Rattle.std.proofs.Common.{◌≡◌, ◌≢◌, ◌⊎◌, ℕ, ◌+◌, ◌<◌, ◌≤◌, ◌^◌, ◌∙◌, Bool, List, ◌∷◌, ◌++◌, Contains, cond, length, length-append, refl, sym, ap, subst, arith, eqb, eq-eqb, inl, inr, ⊎_elim}
 use Rattle.std.proofs.lemmas.Bool.{and_from, cases_eq, cases_lt, cond-false, cond-true, le-leb, lt-ltb, ne_eqb}
 use Rattle.std.proofs.lemmas.List.Elements.{All-contains, All-contains_itself, All-weaker}
 use Rattle.hp_base.specs.Mapping.{AreApart}
@@ -11,7 +11,7 @@ use Rattle.hp_hall.specs.AgreedNames.{chunk_memory}
 use Rattle.hp_hall.specs.Own.{Own}
 use Rattle.hp_heap.proofs.AllocFacts.ChoiceLaw.{Contains-cases, Contains-here, Contains-there}
 use Rattle.hp_heap.proofs.Members.{counted_once}
-use Rattle.hp_log.specs.Places.{IsLogOf, IsOutside, slots_in}
+use Rattle.hp_log.specs.Places.{IsLogOf, IsOutside}
 use Rattle.hp_maps.proofs.ChunkLemmas.{chunk_length}
 use Rattle.hp_maps.proofs.ReadyLemmas.{ready_to_attach}
 use Rattle.hp_maps.specs.Chunks.{rows_of_chunk}

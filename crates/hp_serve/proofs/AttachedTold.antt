@@ -1,5 +1,5 @@
 -- A participant that attaches or detaches: its watchers were told, or it stopped and is as it was.
-use Rattle.std.proofs.Common.{◌≡◌, ◌∙◌, ℕ, ◌<◌, Bool, false, List, ap, sym, subst}
+use Rattle.std.proofs.Common.{◌≡◌, ◌∙◌, ◌<◌, Bool, false, List, ap, sym, subst}
 use Rattle.hp_base.specs.Mapping.{is_done}
 use Rattle.hp_base.specs.Telling.{Listener}
 use Rattle.hp_base.specs.declared.caught.Caught.{Caught}

@@ -1,5 +1,5 @@
 -- The rows of chunks are those of the marked ones still, once one more is marked and its rows have come, and once one is not and its rows have gone.
-use Rattle.std.proofs.Common.{◌≡◌, ◌≢◌, ◌⊎◌, ◌∙◌, ℕ, ◌<◌, Bool, true, false, ◌&&◌, List, ◌++◌, Contains, append-nil, filter, not, refl, sym, ap, subst, eqb, eq-eqb, inl, inr, ⊎_elim, true≢false}
+use Rattle.std.proofs.Common.{◌≡◌, ◌≢◌, ◌⊎◌, ◌∙◌, ℕ, ◌<◌, Bool, true, false, List, ◌++◌, Contains, append-nil, filter, not, sym, ap, subst, eqb, eq-eqb, inl, inr, ⊎_elim, true≢false}
 use Rattle.std.proofs.lemmas.Bool.{and_from, and_right, cases_eq, ne_eqb}
 use Rattle.std.proofs.lemmas.List.Elements.{All-contains, All-contains_itself, All-weaker, Contains-append_cases, filter-append}
 use Rattle.hp_base.specs.declared.chunk.Chunk.{Chunk}

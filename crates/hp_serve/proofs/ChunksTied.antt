@@ -1,5 +1,5 @@
 -- A table is tied still where the rows of a chunk came to it with its mark, and where they went with it: the log's rows and its number stay.
-use Rattle.std.proofs.Common.{◌≡◌, ◌∙◌, ℕ, Bool, true, false, ◌&&◌, List, ◌++◌, append-nil, Contains, filter, not, refl, sym, ap, subst, arith, eqb}
+use Rattle.std.proofs.Common.{◌≡◌, ◌∙◌, ℕ, Bool, true, false, List, ◌++◌, append-nil, not, sym, ap, subst, arith, eqb}
 use Rattle.std.specs.Prelude.{nat_lt}
 use Rattle.std.proofs.lemmas.Bool.{and_left, false≢true, ne_eqb}
 use Rattle.std.proofs.lemmas.List.Elements.{filter-append}

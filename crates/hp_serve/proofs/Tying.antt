@@ -5,7 +5,6 @@ use Rattle.hp_base.specs.declared.caught.Caught.{Caught}
 use Rattle.hp_base.specs.declared.caught.Caught.TheVariants.{Done, Refused, Elsewhere}
 use Rattle.hp_base.specs.declared.chunk.Chunk.{Chunk}
 use Rattle.hp_base.specs.declared.limits.TheConstants.{MAX_HEAPS}
-use Rattle.hp_base.specs.declared.row.Row.{Row}
 use Rattle.hp_hall.specs.AgreedNames.{chunk_memory}
 use Rattle.hp_hall.specs.Own.{Own}
 use Rattle.hp_heap.proofs.AllocFacts.ChoiceLaw.{Contains-none}

@@ -84,7 +84,8 @@ pub(crate) fn follow_and_reply<H: Hall, M: Mapper>(
     requires room { length segs.log ≤ maps.old.number + watchers.old.spare }
     ensures caught { CatchesUp segs.log maps.old maps.new result }
     ensures heard { watchers.new.listeners ≡ told_of segs.log result maps.old watchers.old.listeners }
-    ensures tied { IsTied ((H.state hall.new).seen me) ((H.state hall.new).own me) (marked_in me (H.state hall.new)) (joined || is_done result) maps.new }
+    ensures tied { IsTied ((H.state hall.new).seen me) ((H.state hall.new).own me) (marked_in me (H.state hall.new)) (joined || is_done result)
+        maps.new }
     ensures did { (frame : Frame) × (posted : Posted) × Says frame (reply_of me result segs)
         × Did me (tells_after_catching result (length segs.log) ++ (gives_segments (after_catching me result segs)
         ∷ Posts 0 frame (action_of plan.now MsgKind.Reply me (one_more replies)) posted ∷ [])) (H.state hall.old) (H.state hall.new) }

@@ -85,13 +85,13 @@ pub(crate) fn map_self<H: Hall, M: Mapper, J: Judge>(
 ) -> Result<Out, AllocError>
     requires may_ask { J.may_ask judge.now }
     requires may { MayServe 0 (H.state hall.old) }
-    requires tied { IsTiedAs ((H.state hall.old).seen 0) ((H.state hall.old).own 0) (marked_in 0 (H.state hall.old)) ((H.state hall.old).joined 0)
-        joined.old maps.old }
+    requires tied { IsTiedAs ((H.state hall.old).seen 0) ((H.state hall.old).own 0) (marked_in 0 (H.state hall.old))
+        ((H.state hall.old).joined 0) joined.old maps.old }
     ensures mapped { (steps : List MailStep) × Did 0 steps (H.state hall.old) (H.state hall.new)
         × ((party : Party) → IsMapped (with_table core.old maps.old watchers.old.listeners joined.old party)
         (with_table core.new maps.new watchers.new.listeners joined.new party) steps (result_ok result)) }
-    ensures tied { IsTiedAs ((H.state hall.new).seen 0) ((H.state hall.new).own 0) (marked_in 0 (H.state hall.new)) ((H.state hall.new).joined 0)
-        joined.new maps.new }
+    ensures tied { IsTiedAs ((H.state hall.new).seen 0) ((H.state hall.new).own 0) (marked_in 0 (H.state hall.new))
+        ((H.state hall.new).joined 0) joined.new maps.new }
     ensures stays { StaysButOwn 0 (H.state hall.old) (H.state hall.new) }
     ensures goes_on { H.goes_on hall.old hall.new }
 {

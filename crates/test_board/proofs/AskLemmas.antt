@@ -31,7 +31,7 @@ use Rattle.hp_serve.proofs.AskingFacts.AskKnown.{only_answer, refused_known}
 use Rattle.hp_board.specs.Handed.{HasTakenLater, IsHanded}
 use Rattle.hp_board.specs.KeptValues.{IsKeptAt}
 use Rattle.hp_board.specs.Knowing.{heap_part, knows_of}
-use Rattle.hp_board.specs.Views.{holdings_taken, value_of, without}
+use Rattle.hp_board.specs.Views.{claims_taken, holdings_taken, value_of, without}
 use Rattle.hp_board.specs.declared.view.Mine.{Mine}
 use Rattle.hp_board.proofs.Gives.{gives_heap, gives_same}
 use Rattle.test_board.proofs.PlayLemmas.{noted_none}
@@ -129,6 +129,7 @@ module _ (old mid : Mine) (segs : SegsView) (heap : HeldHeap) (asking : IsAsking
           pairs = asking.pairs;
           has = asking.has;
           index = asking.index;
+          unclaimed = gives.unclaimed (has.claims ∙ asking.unclaimed);
           armed = gives.armed ∙ (ap (armed_ask given) who_is ∙ (ap (λ (s : SegsView). armed_ask s 1) arms.step ∙ armed_now ask segs arms.from sound));
           made = gives.made ∙ (has.made ∙ asking.made);
         }
@@ -136,9 +137,9 @@ module _ (old mid : Mine) (segs : SegsView) (heap : HeldHeap) (asking : IsAsking
 -- HEAP IN HAND
 
 -- it has taken the heap
-pub took_heap : (old new : Mine) (kept : Kept) (heap : HeldHeap) → old.who ≡ 1 → old.held ≡ [] → old.holdings ≡ [] → old.armed ≡ None → old.made ≡ [] → kept ≡ Heap heap.heap heap.pen
+pub took_heap : (old new : Mine) (kept : Kept) (heap : HeldHeap) → old.who ≡ 1 → old.held ≡ [] → old.holdings ≡ [] → old.armed ≡ None → old.made ≡ [] → old.claims ≡ None → kept ≡ Heap heap.heap heap.pen
     → IsHanded old 0 kept new → HasTakenLater 0 kept old new → IsAsking heap None new
-took_heap old new kept heap first free nothing unarmed none is handed takes =
+took_heap old new kept heap first free nothing unarmed none unclaimed is handed takes =
     let at : IsKeptAt old.opening 0 (Heap heap.heap heap.pen) = subst (IsKeptAt old.opening 0) is handed.at in
     let holdings : new.holdings ≡ (0, takes.learned.holding) ∷ [] =
     ap (λ (m : Mine). m.holdings) takes.view.1 ∙ (ap (λ (k : Kept). holdings_taken 0 k takes.learned.holding old.holdings) is
@@ -155,6 +156,7 @@ took_heap old new kept heap first free nothing unarmed none is handed takes =
       pairs = at.pen.pairs;
       has = subst (IsHeldWith heap.heap) known stands.held;
       index = at.heap.index;
+      unclaimed = ap (λ (m : Mine). m.claims) takes.view.1 ∙ (ap (λ (k : Kept). claims_taken k takes.learned old.claims) is ∙ unclaimed);
       armed = ap (λ (m : Mine). m.armed) takes.view.1 ∙ unarmed;
       made = ap (λ (m : Mine). m.made) takes.view.1 ∙ none;
     }
@@ -169,6 +171,7 @@ asking_on heap armed old new asking turned = record {
   pairs = asking.pairs;
   has = asking.has;
   index = asking.index;
+  unclaimed = turned.unclaimed asking.unclaimed;
   armed = turned.armed ∙ asking.armed;
   made = turned.made ∙ asking.made;
 }
@@ -191,6 +194,9 @@ gives_refused heap ask mine asking own refused =
     let is : other ≡ ask = cc in
     refused other (heap_part mine heap.heap.plain.index).holding (ap (λ (a : Ask). a.from) is ∙ (own ∙ sym asking.who)) (ap (λ (a : Ask). a.number) is))
     (leaves_itself mine.who heap.heap.plain)
+    (λ claims chunk knows among.
+    let both : None ≡ Some claims = sym asking.unclaimed ∙ knows in
+    absurd (cc))
 
 -- EITHER WAY
 

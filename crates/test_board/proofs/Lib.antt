@@ -12,6 +12,7 @@ pub mod AskLemmas
 pub mod ThreeOpened
 pub mod ZoneElements
 pub mod ZoneAgreed
+pub mod ZoneHands
 pub mod ZoneHeaps
 pub mod ZoneKnown
 pub mod ZoneLemmas

@@ -37,7 +37,7 @@ use Rattle.hp_board.specs.KeptValues.{IsKeptAt, entries_added}
 use Rattle.hp_board.specs.Knowing.{heap_part, knows_of}
 use Rattle.hp_board.specs.declared.opening.Opening.{Opening}
 use Rattle.hp_board.specs.SeatView.{SeatView}
-use Rattle.hp_board.specs.Views.{after_acking, after_give, after_load, after_unmapping, asks_heard, holdings_taken, log_seen, noted_of, own_of, under, value_of, without}
+use Rattle.hp_board.specs.Views.{after_acking, after_give, after_load, after_unmapping, asks_heard, claims_later, claims_taken, holdings_taken, log_seen, noted_of, own_of, under, value_of, without}
 use Rattle.hp_board.specs.declared.view.Mine.{Mine}
 use Rattle.hp_board.proofs.Loads.{noted_else, noted_here}
 use Rattle.hp_board.proofs.Pairs.{value_of-here}
@@ -91,6 +91,7 @@ module _ (board : TableId) (old new : SeatView) (maps : MapsView) (kept : Kept) 
     who = who_same;
     held = ap (λ (m : Mine). m.held) takes.view.1 ∙ ap (λ (k : Kept). (32, k) ∷ old.mine.held) is;
     holdings = ap (λ (m : Mine). m.holdings) takes.view.1 ∙ ap (λ (k : Kept). holdings_taken 32 k takes.learned.holding old.mine.holdings) is;
+    claims = ap (λ (m : Mine). m.claims) takes.view.1 ∙ ap (λ (k : Kept). claims_taken k takes.learned old.mine.claims) is;
     armed = ap (λ (m : Mine). m.armed) takes.view.1;
     made = ap (λ (m : Mine). m.made) takes.view.1;
   }
@@ -118,6 +119,7 @@ module _ (old new : Mine) (comes : HasComeOn old new) where
     who = ap (λ (m : Mine). m.who) is_now ∙ has.who;
     held = ap (λ (m : Mine). m.held) is_now ∙ has.held;
     holdings = ap (λ (m : Mine). m.holdings) is_now ∙ has.holdings;
+    claims = ap (λ (m : Mine). m.claims) is_now ∙ has.claims;
     armed = ap (λ (m : Mine). m.armed) is_now ∙ has.armed;
     made = ap (λ (m : Mine). m.made) is_now ∙ has.made;
   }
@@ -189,6 +191,7 @@ module _ (board : TableId) (old new : SeatView) (maps : MapsView) (taken given :
       who = ap (λ (m : Mine). m.who) gave;
       held = ap (λ (m : Mine). m.held) gave;
       holdings = ap (λ (m : Mine). m.holdings) gave;
+      unclaimed = λ none. ap (λ (m : Mine). m.claims) gave ∙ ap (claims_later (Segments given)) none;
       armed = ap (λ (m : Mine). m.armed) gave;
       made = ap (λ (m : Mine). m.made) gave ∙ (ap (λ (l : List Entry). old.mine.made ++ under 32 l) (none_added given (value_of 32 old.mine.held)) ∙ append-nil old.mine.made);
       heard = ap (λ (m : Mine). m.heard) gave;
@@ -214,6 +217,7 @@ turned old mid new segs given has standing leaves gives = record {
       let mid_is : mid.holdings ≡ (heap, holding) ∷ [] = has.holdings ∙ is in
       gives.holdings ∙ (ap (map {B = ℕ × Holding} (λ (pair : ℕ × Holding). (pair.0, standing_of pair.0 given))) mid_is
       ∙ (known_again heap holding mid segs given mid_is standing leaves ∙ sym is));
+  unclaimed = λ none. gives.unclaimed (has.claims ∙ none);
   armed = gives.armed ∙ (leaves.armed mid.who ∙ (sym (standing.armed 0) ∙ has.armed));
   made = gives.made ∙ has.made;
 }

@@ -72,6 +72,7 @@ newcomer_plays board who seat maps three member is empty =
       who_is = refl;
       held = refl;
       holdings = refl;
+      unclaimed = refl;
       armed = refl;
       made = refl;
     })

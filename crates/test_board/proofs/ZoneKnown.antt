@@ -1,5 +1,5 @@
 -- What a participant that has the names in hand knows of the heaps and of external memory, and that the names which it gives agree with that.
-use Rattle.std.proofs.Common.{◌≡◌, ◌≢◌, ◌∙◌, ℕ, ◌<◌, List, Option, Some, sym, ap, subst, lit<}
+use Rattle.std.proofs.Common.{◌≡◌, ◌≢◌, ◌∙◌, ℕ, ◌<◌, List, Option, Some, Contains, sym, ap, subst, lit<}
 use Rattle.std.specs.Option.{option_map}
 use mathlib.Core.Logic.{dite}
 use native.Mathlib.Decide.{ℕ_discrete}
@@ -9,7 +9,8 @@ use Rattle.hp_segs.specs.SegsView.{SegsView}
 use Rattle.hp_segs.specs.declared.external_range.ExternalRange.{ExternalRange}
 use Rattle.hp_zone.specs.declared.names.Names.{Names as NamesView}
 use Rattle.hp_stats.specs.StatViews.{PenView}
-use Rattle.hp_hall.specs.AgreedNames.{AreAgreedNames}
+use Rattle.std.proofs.lemmas.Option.{same_Some}
+use Rattle.hp_hall.specs.AgreedNames.{AreAgreedNames, chunk_memory}
 use Rattle.hp_hall.specs.Holding.{AgreeWith, StandsFor}
 use Rattle.hp_hall.specs.Naming.{Naming, naming_of}
 use Rattle.hp_hall.specs.declared.kept.Kept.{Kept}
@@ -22,6 +23,8 @@ use Rattle.hp_board.specs.declared.view.Mine.{Mine}
 use Rattle.hp_board.proofs.NamesFacts.Renamed.{renamed_else, renamed_here}
 use Rattle.test_board.specs.Zoned.{AgreeStill, HasGone, HasOneMore, HasPut, with_naming}
 use Rattle.test_board.proofs.ZoneAgreed.{gone_agrees, naming_else, naming_here, put_agrees}
+use Rattle.test_board.proofs.ZoneHands.{AreKnownClaimed}
+use Rattle.hp_hall.proofs.ClaimedChunks.{all_claimed, claimed_all}
 
 -- it knows this of the heaps, and this of external memory
 pub record KnowsThese (namings : ℕ → Naming) (claims : List ExternalRange) (mine : Mine) : Type 0 where
@@ -123,27 +126,40 @@ module _ (addr : ℕ) (names given : NamesView) (before after : HeapView) (pen :
       agree_with (with_naming 1 (naming_of after.plain) agree.namings) agree.claims new given known_then
       (gone_agrees addr names given agree.namings agree.claims agree.agreed (naming_of after.plain) gone (subst (HasOneMore addr (naming_of after.plain)) (sym own) more))
 
--- A HEAP GETS A NAME AND MEMORY, with the names, the segment value and the heap in hand
+-- A HEAP GETS A NAME AND MEMORY, with the names, the heap and the segment value in hand
 
-module _ (names given : NamesView) (segs claimed : SegsView) (before after : HeapView) (pen : PenView) (kept_segs kept : Kept) (old one two new last : Mine)
-    (agree : AgreeWith (heap_part old) names) (is_segs : kept_segs ≡ Segments segs) (took_segs : HasTakenLater 32 kept_segs old one) (handed_segs : IsHanded old 32 kept_segs one)
-    (is : kept ≡ Heap before pen) (taken : HasTakenLater 1 kept one two) (handed : IsHanded one 1 kept two) (gave : new ≡ after_give 1 (Heap after pen) two)
-    (gave_segs : last ≡ after_give 32 (Segments claimed) new) (index : before.plain.index ≡ 1) where
+module _ (names given : NamesView) (segs claimed : SegsView) (before after : HeapView) (pen : PenView) (kept kept_segs : Kept) (old one two new : Mine)
+    (agree : AgreeWith (heap_part old) names) (is : kept ≡ Heap before pen) (taken : HasTakenLater 1 kept old one) (handed : IsHanded old 1 kept one)
+    (is_segs : kept_segs ≡ Segments segs) (took_segs : HasTakenLater 32 kept_segs one two) (handed_segs : IsHanded one 32 kept_segs two)
+    (gave_segs : new ≡ after_give 32 (Segments claimed) two) (index : before.plain.index ≡ 1) (still : AgreeStill before after names given segs.ranges claimed.ranges) where
   abbrev f : ℕ → Naming
   f = agree.namings
 
+  abbrev g : ℕ → Naming
+  g = with_naming 1 (naming_of after.plain) agree.namings
+
   at_first : KnowsThese f agree.claims one
-  at_first = known_with_segs f agree.claims old one (known_of old names agree) kept_segs segs is_segs took_segs
+  at_first = known_with_heap f agree.claims old one (known_of old names agree) kept before pen is taken
 
-  at_last : KnowsThese (with_naming 1 (naming_of after.plain) f) claimed.ranges last
+  at_last : KnowsThese f claimed.ranges new
   at_last =
-      known_segs_given (with_naming 1 (naming_of after.plain) f) agree.claims new last
-      (known_heap_given f agree.claims two new (known_with_heap f agree.claims one two at_first kept before pen is taken) after pen gave) claimed gave_segs
+      known_segs_given f agree.claims two new (known_with_segs f agree.claims one two at_first kept_segs segs is_segs took_segs) claimed gave_segs
 
-  pub brought_known : AgreeStill before after names given segs.ranges claimed.ranges → AgreeWith (heap_part last) given
-  brought_known still =
-      let memory : segs.ranges ≡ agree.claims = segs_as_known f agree.claims old one (known_of old names agree) kept_segs segs is_segs took_segs handed_segs in
-      let heap_is : f 1 ≡ naming_of before.plain = heap_as_known f agree.claims one two at_first kept before pen is taken handed (lit< tt) in
-      agree_with (with_naming 1 (naming_of after.plain) f) claimed.ranges last given at_last
-      (subst (λ (k : ℕ). AreAgreedNames given (with_naming k (naming_of after.plain) f) claimed.ranges) index
-      (still f (ap f index ∙ heap_is) (subst (AreAgreedNames names f) (sym memory) agree.agreed)))
+  agreed : AreAgreedNames given g claimed.ranges
+  agreed =
+      let memory : segs.ranges ≡ agree.claims = segs_as_known f agree.claims one two at_first kept_segs segs is_segs took_segs handed_segs in
+      let heap_is : f 1 ≡ naming_of before.plain = heap_as_known f agree.claims old one (known_of old names agree) kept before pen is taken handed (lit< tt) in
+      subst (λ (k : ℕ). AreAgreedNames given (with_naming k (naming_of after.plain) f) claimed.ranges) index
+      (still f (ap f index ∙ heap_is) (subst (AreAgreedNames names f) (sym memory) agree.agreed))
+
+  -- once the segment value is given the memory of the heap's chunks is claimed
+  pub brought_claimed : AreKnownClaimed new.claims after.plain.chunks
+  brought_claimed claims chunk known has =
+      let same : claimed.ranges ≡ claims = same_Some claimed.ranges claims (sym at_last.claimed ∙ known) in
+      subst (λ (l : List ExternalRange). Contains l (chunk_memory chunk)) same
+      (claimed_all ⊥ claimed.ranges after.plain.chunks (λ no. no)
+      (all_claimed ⊥ given g claimed.ranges agreed 1 after.plain (lit< tt) (naming_here 1 (naming_of after.plain) f)) chunk has)
+
+  -- and once the heap is given the names agree with all that is known
+  pub brought_known : (last : Mine) → last ≡ after_give 1 (Heap after pen) new → AgreeWith (heap_part last) given
+  brought_known last gave = agree_with g claimed.ranges last given (known_heap_given f claimed.ranges new last at_last after pen gave) agreed

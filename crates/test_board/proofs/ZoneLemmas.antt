@@ -1,5 +1,5 @@
 -- What may be given by participants that reserve and free memzones by turns, and what they have afterwards.
-use Rattle.std.proofs.Common.{◌≡◌, ◌∙◌, ℕ, ◌+◌, ◌<◌, true, false, List, [], ◌∷◌, ◌++◌, drop, length, Option, Some, None, refl, sym, ap, subst, arith, lit<}
+use Rattle.std.proofs.Common.{◌≡◌, ◌∙◌, ℕ, ◌+◌, ◌<◌, true, false, List, [], ◌∷◌, ◌++◌, drop, length, Option, Some, None, refl, sym, ap, subst, arith, lit<, inl}
 use Rattle.std.specs.List.{All, Contains}
 use Rattle.std.specs.Option.{is_some}
 use Rattle.std.proofs.Math.Seq.{drop-append_seam}
@@ -25,8 +25,7 @@ use Rattle.hp_zone.specs.declared.zone.Zone.{Zone}
 use Rattle.hp_zone.specs.declared.zone.ZoneChange.TheVariants.{Put}
 use Rattle.hp_stats.specs.StatViews.{PenView}
 use Rattle.hp_hall.specs.Giving.{IsNumbered, claims_ranges, entries_made}
-use Rattle.hp_hall.specs.HeapPairs.{ArePairsOf}
-use Rattle.hp_hall.specs.Holding.{AgreeWith, IsAsPart, IsHeldWith, StandsFor}
+use Rattle.hp_hall.specs.Holding.{AgreeWith, IsHeldWith, StandsFor}
 use Rattle.hp_hall.specs.Named.{IsAllocated, NamesGoOn, seen_of_names}
 use Rattle.hp_hall.specs.Naming.{MarksStayBut, marked_by, naming_of}
 use Rattle.hp_hall.specs.declared.kept.Kept.{Kept}
@@ -38,7 +37,7 @@ use Rattle.hp_board.specs.declared.view.Mine.{Mine}
 use Rattle.hp_board.specs.declared.words.TheConstants.{SLOTS}
 use Rattle.hp_board.specs.Giving.{IsGiveAt}
 use Rattle.hp_board.specs.Handed.{HasTakenLater, IsHanded}
-use Rattle.hp_board.specs.KeptValues.{IsKeptAt, entries_added}
+use Rattle.hp_board.specs.KeptValues.{entries_added}
 use Rattle.hp_board.specs.Knowing.{heap_part, knows_of}
 use Rattle.hp_board.specs.BoardView.{BoardView}
 use Rattle.hp_board.specs.SeatView.{SeatView, new_seat}
@@ -50,6 +49,7 @@ use Rattle.hp_board.proofs.Histories.{IsNumbered-append}
 use Rattle.test_board.specs.Playing.{IsBack}
 use Rattle.test_board.specs.Zoned.{HasCalls, HasClaimed}
 use Rattle.test_board.specs.Zoning.{IsFree, Sits}
+use Rattle.test_board.proofs.ZoneHands.{AreKnownClaimed, IsInHand}
 
 -- CALLS OF A HEAP
 
@@ -157,17 +157,6 @@ module _ (id : TableId) (who made : ℕ) (held : List (ℕ × Kept)) (old new : 
   pub sits_names : (names : NamesView) → kept ≡ Names names → HasTakenLater 33 kept old.mine new.mine → Sits id who made ((33, Names names) ∷ held) new
   sits_names names is taken = subst (λ (k : Kept). Sits id who made ((33, k) ∷ held) new) is (sits_take id who made held old new sits here 33 kept taken)
 
--- what the taker of heap 1 knows of it
-pub record IsInHand (heap : HeapView) (pen : PenView) (mine : Mine) : Type 0 where
-  pub stands : IsAsPart (heap_part mine heap.plain.index) heap
-  pub pairs : ArePairsOf heap pen
-  pub index : heap.plain.index ≡ 1
-
-pub in_hand : (old new : Mine) (kept : Kept) (heap : HeapView) (pen : PenView) → IsHanded old 1 kept new → kept ≡ Heap heap pen → IsInHand heap pen new
-in_hand old new kept heap pen handed is =
-    let at = subst (IsKeptAt old.opening 1) is handed.at in
-    record { stands = subst (StandsFor old.who (heap_part new)) is handed.stands; pairs = at.pen.pairs; index = at.heap.index }
-
 -- HEAP 1 IS GIVEN
 
 module _ (id : TableId) (who made after : ℕ) (more : List (ℕ × Kept)) (seat : SeatView) (heap given : HeapView) (pen : PenView) (sits : Sits id who made ((1, Heap heap pen) ∷ more) seat)
@@ -178,9 +167,10 @@ module _ (id : TableId) (who made after : ℕ) (more : List (ℕ × Kept)) (seat
   numbers : entries_made (heap_part seat.mine) ≡ made
   numbers = made_counted seat.mine sits.placed ∙ sits.count
 
-  -- where the names are in hand, or all that they speak of is as it was
-  pub heap_gives : IsInHand heap pen seat.mine → (holds_names seat.mine ≡ false → naming_of given.plain ≡ naming_of heap.plain) → IsGiveAt (knows_of seat.mine) 1 (Heap given pen)
-  heap_gives hand named =
+  -- where the names are in hand, or all that they speak of is as it was; and the memory of its chunks is claimed
+  pub heap_gives : IsInHand heap pen seat.mine → (holds_names seat.mine ≡ false → naming_of given.plain ≡ naming_of heap.plain) → AreKnownClaimed seat.mine.claims given.plain.chunks
+      → IsGiveAt (knows_of seat.mine) 1 (Heap given pen)
+  heap_gives hand named claimed =
       gives_at (knows_of seat.mine) 1 (Heap heap pen) (Heap given pen) held (record {
         heap = record {
           index = calls.index;
@@ -190,9 +180,10 @@ module _ (id : TableId) (who made after : ℕ) (more : List (ℕ × Kept)) (seat
           numbered = subst (λ (w : ℕ). IsNumbered w (entries_made (heap_part seat.mine)) calls.own) (sym sits.who_is)
               (subst (λ (n : ℕ). IsNumbered who n calls.own) (sym numbers) calls.numbered);
           held = subst (λ (index : ℕ). IsHeldWith given (heap_part seat.mine index).holding) (sym calls.index)
-              (held_stays heap given (heap_part seat.mine heap.plain.index).holding calls.pages calls.grown calls.cut hand.stands.held);
+              (held_stays heap given (heap_part seat.mine heap.plain.index).holding calls.pages calls.grown calls.cut hand.held);
           settled = unarmed_settled given.plain.index seat.mine.heard (heap_part seat.mine given.plain.index) sits.unarmed;
           named = named;
+          claimed = λ has. claimed;
           marks = λ other apart. calls.marks other (λ same. apart (same ∙ sym sits.who_is));
         };
         pen = keeps_pen heap given calls.own pen calls.index calls.serves calls.history hand.pairs;
@@ -259,7 +250,11 @@ module _ (id : TableId) (who made : ℕ) (more : List (ℕ × Kept)) (seat : Sea
       gives_at (knows_of seat.mine) 32 (Segments segs) (Segments given) (ap (value_of 32) sits.held_is) (record {
         more = [];
         log = claims.log ∙ sym (append-nil segs.log);
-        form = claims_ranges (record { give = record { moved = claims.moved }; naming = naming });
+        form = claims_ranges (record {
+          give = record { moved = claims.moved };
+          naming = naming;
+          released = λ range has. inl (claims.still range has);
+        });
       })
 
   pub segs_given : armed_ask segs who ≡ None → (new : SeatView) → without 32 more ≡ more → new.board ≡ seat.board → new.mine ≡ after_give 32 (Segments given) seat.mine

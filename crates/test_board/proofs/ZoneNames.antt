@@ -4,7 +4,7 @@ use Rattle.std.specs.List.{Contains}
 use Rattle.std.proofs.lemmas.Bool.{cond-false, eqb-true}
 use Rattle.std.proofs.lemmas.List.{append_assoc, append-nil, get_or-append_right, get_or_append_left, length-append}
 use Rattle.std.proofs.lemmas.Slice.Eq.{bytes_eq-Decides}
-use Rattle.std.proofs.lemmas.List.Elements.{Contains-push, filter-append}
+use Rattle.std.proofs.lemmas.List.Elements.{Contains-append_left, Contains-push, filter-append}
 use Rattle.std.specs.Result.{is_ok}
 use Rattle.hp_base.specs.declared.chunk.Chunk.{Chunk}
 use Rattle.hp_base.specs.declared.tag.Caller.{Caller}
@@ -61,6 +61,8 @@ module _ (caller : Caller) (text : List ℕ) (addr len page : ℕ) (names new : 
   pub added_claims : HasClaimed segs given
   added_claims = subst (HasClaimed segs) (sym adds.claimed) (record {
     moved = calls_move is_range_call (ClaimRange adds.list addr len page adds.socket) segs refl adds.planned;
+    still = λ range has.
+        Contains-append_left segs.ranges (record { list = adds.list; addr = addr; len = len; page = page; socket = adds.socket } ∷ []) range has;
     log = refl;
     armed = refl;
   })

@@ -16,7 +16,8 @@ use Rattle.hp_hall.specs.declared.kept.Kept.TheVariants.{Heap}
 use Rattle.hp_board.specs.declared.view.Mine.{Mine}
 
 -- it is participant 1, has heap 0 in hand as it was taken, with the pen by which nothing but pairs of it was published; the heap has what the
--- segment value has for it; the participant is armed so, and has made no entry
+-- segment value has for it; the participant, which has not the names in hand, knows nothing of external memory; it is armed so, and has made
+-- no entry
 pub record IsAsking (taken : HeldHeap) (ask : Option Ask) (mine : Mine) : Type 0 where
   pub holding : Holding
   pub who : mine.who ≡ 1
@@ -25,6 +26,7 @@ pub record IsAsking (taken : HeldHeap) (ask : Option Ask) (mine : Mine) : Type 0
   pub holdings : mine.holdings ≡ (0, holding) ∷ []
   pub has : HasHolding taken.heap holding
   pub index : taken.heap.plain.index ≡ 0
+  pub unclaimed : mine.claims ≡ None
   pub armed : mine.armed ≡ ask
   pub made : mine.made ≡ []
 

@@ -39,6 +39,7 @@ pub record HasSegs (old : Mine) (segs : SegsView) (mine : Mine) : Type 0 where
   pub who : mine.who ≡ old.who
   pub held : mine.held ≡ (32, Segments segs) ∷ old.held
   pub holdings : mine.holdings ≡ old.holdings
+  pub claims : mine.claims ≡ old.claims
   pub armed : mine.armed ≡ old.armed
   pub made : mine.made ≡ old.made
 
@@ -47,21 +48,23 @@ abbrev pub HasComeOn : Mine → Mine → Type 0
 HasComeOn old new = (number unmapped : ℕ) × (joining : Bool) × (noted : List (ℕ × ℕ))
     × (new ≡ record old { number = number; unmapped = unmapped; joining = joining; noted = noted })
 
--- it has given a segment value, and what else it had it has still
+-- it has given a segment value, and what else it had it has still; it knows no more of external memory than before
 pub record HasGiven (old : Mine) (given : SegsView) (mine : Mine) : Type 0 where
   pub who : mine.who ≡ old.who
   pub held : mine.held ≡ without 32 old.held
   pub holdings : mine.holdings ≡ map (λ pair. (pair.0, standing_of pair.0 given)) old.holdings
+  pub unclaimed : old.claims ≡ None → mine.claims ≡ None
   pub armed : mine.armed ≡ armed_ask given old.who
   pub made : mine.made ≡ old.made
   pub heard : mine.heard ≡ given.asks
 
 -- a turn in which the segment value was taken and given leaves all else: the slots that were held besides, what was known of a heap in hand,
--- the armed ask, and the entries
+-- the armed ask, and the entries; and who did not know what external memory is claimed does not know it then
 pub record HasTurned (old new : Mine) : Type 0 where
   pub who : new.who ≡ old.who
   pub held : new.held ≡ without 32 old.held
   pub holdings : (heap : ℕ) (holding : Holding) → old.holdings ≡ (heap, holding) ∷ [] → new.holdings ≡ old.holdings
+  pub unclaimed : old.claims ≡ None → new.claims ≡ None
   pub armed : new.armed ≡ old.armed
   pub made : new.made ≡ old.made
 
@@ -72,12 +75,13 @@ pub record IsBack (board : TableId) (who : ℕ) (seat : SeatView) : Type 0 where
   pub who_is : seat.mine.who ≡ who
   pub held : seat.mine.held ≡ []
 
--- a participant before its first turn: it plays, holds nothing, is armed with no ask, and has made no entry
+-- a participant before its first turn: it plays, holds nothing, knows nothing of external memory, is armed with no ask, and has made no entry
 pub record IsNewcomer (board : TableId) (who : ℕ) (seat : SeatView) (maps : MapsView) : Type 0 where
   pub playing : IsPlaying board seat maps
   pub who_is : seat.mine.who ≡ who
   pub held : seat.mine.held ≡ []
   pub holdings : seat.mine.holdings ≡ []
+  pub unclaimed : seat.mine.claims ≡ None
   pub armed : seat.mine.armed ≡ None
   pub made : seat.mine.made ≡ []
 

@@ -1,5 +1,5 @@
 -- What comes of the names, of a heap and of the segment value where participants reserve and free memzones.
-use Rattle.std.specs.Prelude.{◌≡◌, ℕ, ◌+◌, ◌==◌, List, [], ◌∷◌, ◌++◌, map, length, if◌then◌else◌}
+use Rattle.std.specs.Prelude.{◌≡◌, ℕ, ◌+◌, ◌==◌, List, [], ◌∷◌, ◌++◌, Contains, map, length, if◌then◌else◌}
 use Rattle.std.specs.List.Sorted.{IsPermutation}
 use Rattle.hp_base.specs.declared.request.Request.{Request}
 use Rattle.hp_base.specs.declared.tag.Tag.{Tag}
@@ -92,9 +92,10 @@ pub record HasGone (addr : ℕ) (taken given : NamesView) : Type 0 where
   pub log : given.zones.log ≡ taken.zones.log ++ Gone zone.name ∷ []
   pub heaps : given.heaps ≡ taken.heaps
 
--- external memory was claimed, and nothing else of the segment value has changed
+-- external memory was claimed, what was claimed is claimed still, and nothing else of the segment value has changed
 pub record HasClaimed (taken given : SegsView) : Type 0 where
   pub moved : IsMovedBy is_range_call 0 taken given
+  pub still : (range : ExternalRange) → Contains taken.ranges range → Contains given.ranges range
   pub log : given.log ≡ taken.log
   pub armed : given.armed ≡ taken.armed
 

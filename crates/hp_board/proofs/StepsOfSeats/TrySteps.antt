@@ -30,6 +30,7 @@ use Rattle.hp_board.specs.Views.{Learned, claims_taken, namings_taken, value_of,
 use Rattle.hp_board.specs.Parts.{part_of, one_part}
 use Rattle.hp_board.specs.Handed.{GoesOnFrom, IsHanded, IsHeldWord}
 use Rattle.hp_hall.specs.Holding.{StandsFor}
+use Rattle.hp_hall.specs.Naming.{Naming}
 use Rattle.hp_hall.specs.declared.slot.TheConstants.{NAMES_SLOT}
 use Rattle.hp_zone.specs.declared.names.Names.{Names as NamesView}
 use Rattle.hp_board.specs.Agreed.{AreNamesAgreed, naming_in}

@@ -39,9 +39,9 @@ impl<'p, M: Mapper> Server<'p, M> {
         Ok(caught)
     }
 
-    /// A secondary that has left every chunk takes the segment value, unmaps its whole table, tells its watchers and the hall so, leaves the
-    /// roster and gives the value back. It is refused, and all is as it was, only where somebody watches and there is no room to tell. After rte_eal_cleanup of a
-    /// secondary process.
+    /// A secondary that has left every chunk takes the segment value, unmaps its whole table, tells its watchers and the hall so, leaves
+    /// the roster and gives the value back. It is refused, and all is as it was, only where somebody watches and there is no room to tell.
+    /// After rte_eal_cleanup of a secondary process.
     pub fn detach<H: Hall>(&mut self, hall: &mut H) -> Result<(), AllocError>
         requires secondary { 0 < self.old.me }
         requires may { MayHold self.old.me (H.state hall.old) }

@@ -34,7 +34,8 @@ impl<'p, M: Mapper> Server<'p, M> {
         requires caller { MayCall caller heap.old }
         requires named { IsThatHeap names.now.heaps.plain text.now heap.old.plain }
         requires table { MayAttach caller.participant addr len heap.old.plain self.old.maps }
-        ensures attached { OnOk result (Attaches caller names.now.heaps.plain text.now addr len heap.old heap.new self.old.maps self.new.maps) }
+        ensures attached { OnOk result (Attaches caller names.now.heaps.plain text.now addr len heap.old heap.new self.old.maps
+            self.new.maps) }
         ensures refused { IfErr result (IsAttachFault caller.participant names.now.heaps.plain text.now addr len heap.old.plain self.old.maps
             self.new.maps) }
         ensures err { OnErr result (heap.new ≡ heap.old) }
@@ -56,7 +57,8 @@ impl<'p, M: Mapper> Server<'p, M> {
     ) -> Result<(), DetachFault>
         requires caller { MayCall caller heap.old }
         requires named { IsThatHeap names.now.heaps.plain text.now heap.old.plain }
-        ensures detached { OnOk result (Detaches caller names.now.heaps.plain text.now addr len heap.old heap.new self.old.maps self.new.maps) }
+        ensures detached { OnOk result (Detaches caller names.now.heaps.plain text.now addr len heap.old heap.new self.old.maps
+            self.new.maps) }
         ensures refused { IfErr result (IsDetachFault caller.participant names.now.heaps.plain text.now addr len heap.old.plain) }
         ensures err { OnErr result ((heap.new ≡ heap.old) × (self.new ≡ self.old)) }
         ensures only { self.new ≡ with_maps self.new.maps self.old }

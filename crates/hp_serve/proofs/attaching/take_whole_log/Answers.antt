@@ -90,9 +90,10 @@ returns-then-is_done-clause-stays g c =
     record { slots = own.slots; parts = own.parts; others = own.others; measure = c.ack.ensures.measure }
 
 -- a table without a mark has no row of a chunk, nor has what a failed mapping left of it
-pub empty-requires-clause-no_chunk : goal.empty-requires-clause-no_chunk
-empty-requires-clause-no_chunk g c =
-    c.catch_up-caught.ensures.chunks ∙ no_chunk_rows (chunk_rows c.args.maps.now.rows) c.requires.tied.table.chunks
+pub empty-requires : goal.empty-requires
+empty-requires g c = record {
+  no_chunk = c.catch_up-caught.ensures.chunks ∙ no_chunk_rows (chunk_rows c.args.maps.now.rows) c.requires.tied.table.chunks;
+}
 
 pub returns-clause-did : goal.returns-clause-did
 returns-clause-did g c =

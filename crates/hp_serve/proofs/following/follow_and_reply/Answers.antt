@@ -1,5 +1,5 @@
 -- The table is tied along what the hall did after it, and the steps follow one another.
-use Rattle.std.proofs.Common.{◌∙◌, ◌++◌, ◌||◌, sym, ap, subst, arith}
+use Rattle.std.proofs.Common.{◌∙◌, ◌++◌, ◌||◌, ap, subst, arith}
 use Rattle.hp_base.specs.Mapping.{is_done}
 use Rattle.hp_base.specs.declared.limits.TheConstants.{MAX_HEAPS}
 use Rattle.hp_hall.proofs.HallStates.{but_then, did_then, others_then, parts_then, slots_but}

@@ -90,6 +90,7 @@ pub fn ask_for_a_page<R: Wait>(
     requires playing { IsPlaying board.now.id seat maps }
     requires first { seat.mine.who ≡ 1 }
     requires new { (seat.mine.held ≡ []) × (seat.mine.holdings ≡ []) × (seat.mine.armed ≡ None) × (seat.mine.made ≡ []) }
+    requires unclaimed { seat.mine.claims ≡ None }
     ensures back { IfSome result (λ back. IsBack board.now.id 1 back.0) }
 {
     let mut seat = seat;

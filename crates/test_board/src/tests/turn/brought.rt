@@ -91,11 +91,11 @@ pub fn bring<R: Wait>(rt: &R, board: &Board, seat: Seat) -> Option<Seat>
 {
     let mut seat = seat;
     let kept_names = take(rt, board, &mut seat, NAMES);
-    let kept_segs = take(rt, board, &mut seat, SEGMENTS);
     let kept_heap = take(rt, board, &mut seat, OUTSIDE);
+    let kept_segs = take(rt, board, &mut seat, SEGMENTS);
     let mut names = kept_names.into_names();
-    let mut segs = kept_segs.into_segments();
     let (heap, pen) = kept_heap.into_heap();
+    let mut segs = kept_segs.into_segments();
     let mut heap = heap;
     if !named(&mut names, &mut heap, b"outside") {
         return None;
@@ -103,8 +103,8 @@ pub fn bring<R: Wait>(rt: &R, board: &Board, seat: Seat) -> Option<Seat>
     if !filled(&mut names, &mut heap, &mut segs, b"outside") {
         return None;
     }
-    give(board, &mut seat, OUTSIDE, Kept::Heap { heap, pen });
     give(board, &mut seat, SEGMENTS, Kept::Segments { segs });
+    give(board, &mut seat, OUTSIDE, Kept::Heap { heap, pen });
     give(board, &mut seat, NAMES, Kept::Names { names });
     Some(seat)
 }

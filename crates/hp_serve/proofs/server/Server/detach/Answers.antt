@@ -6,7 +6,7 @@ use Rattle.hp_events.specs.Watchers.{WatchersView}
 use Rattle.hp_hall.proofs.HallStates.{others_same, parts_same, slots_same}
 use Rattle.hp_maps.specs.Events.{IsToldByAddress}
 use Rattle.hp_maps.specs.MapsView.{MapsView}
-use Rattle.hp_serve.specs.Attaching.{HasLeftIn, after_detaching, emptied}
+use Rattle.hp_serve.specs.Attaching.{HasLeftIn, after_detaching}
 use Rattle.hp_serve.specs.InHall.{IsTiedIn, marked_in}
 use Rattle.hp_serve.specs.Party.{Party}
 use Rattle.hp_serve.specs.Tied.{IsTiedAs, no_chunks}

@@ -20,7 +20,7 @@ arm-requires-clause-asks g c =
     let heap = heap_kept c.args.seat.mine.opening 0 c.take-kept.result (lit< tt) c.take-kept.ensures.handed.at in
     let new = c.requires.new in (
       heap.0,
-      took_heap c.args.seat.mine c.take-kept.new.seat.mine c.take-kept.result heap.0 c.requires.first new.0 new.1 new.2 new.3 heap.1 c.take-kept.ensures.handed c.take-kept.ensures.taken,
+      took_heap c.args.seat.mine c.take-kept.new.seat.mine c.take-kept.result heap.0 c.requires.first new.0 new.1 new.2 new.3 c.requires.unclaimed heap.1 c.take-kept.ensures.handed c.take-kept.ensures.taken,
     )
 
 pub loop-init : goal.loop-init
@@ -28,7 +28,7 @@ loop-init g c =
     let heap = heap_kept c.args.seat.mine.opening 0 c.take-kept.result (lit< tt) c.take-kept.ensures.handed.at in
     let new = c.requires.new in
     let was =
-    took_heap c.args.seat.mine c.take-kept.new.seat.mine c.take-kept.result heap.0 c.requires.first new.0 new.1 new.2 new.3 heap.1 c.take-kept.ensures.handed c.take-kept.ensures.taken in
+    took_heap c.args.seat.mine c.take-kept.new.seat.mine c.take-kept.result heap.0 c.requires.first new.0 new.1 new.2 new.3 c.requires.unclaimed heap.1 c.take-kept.ensures.handed c.take-kept.ensures.taken in
     record {
       playing = c.arm.ensures.playing;
       from = c.in-Some.ensures.from;

@@ -2,8 +2,9 @@ use Rattle.std.proofs.Common.{rules, ◌≡◌, ◌∙◌, ◌+◌, [], ◌∷�
 use Rattle.std.proofs.lemmas.Bool.{false≢true}
 use Rattle.hp_hall.specs.declared.kept.Kept.TheVariants.{Names}
 use Rattle.hp_board.proofs.KeptAt.{is_heap, is_names}
+use Rattle.test_board.proofs.ZoneHands.{hand_claimed, in_hand}
 use Rattle.test_board.proofs.ZoneKnown.{gone_known, names_agree}
-use Rattle.test_board.proofs.ZoneLemmas.{has_names, heap_given, heap_gives, in_hand, names_given, names_gives, sits_heap, sits_names}
+use Rattle.test_board.proofs.ZoneLemmas.{has_names, heap_given, heap_gives, names_given, names_gives, sits_heap, sits_names}
 use Rattle.test_board.proofs.ZoneNames.{gone_goes, gone_none}
 use Rattle.test_board.proofs.tests.turn.zone_turns.free.Goals as goal
 
@@ -28,6 +29,8 @@ give-requires-clause-gives g c =
     heap_gives id c.args.who c.args.made (c.args.made + 2) more c.take-kept.new.seat heap c.freed.new.heap pen sits freed.calls
     (in_hand c.take-kept_names.new.seat.mine c.take-kept.new.seat.mine c.take-kept.result heap pen c.take-kept.ensures.handed c.into_heap-heap.ensures)
     (λ none. absurd (false≢true (sym none ∙ has_names id c.args.who c.args.made _ names c.take-kept.new.seat sits refl)))
+    (hand_claimed c.take-kept_names.new.seat.mine c.take-kept.new.seat.mine c.take-kept.result heap pen c.take-kept.ensures.handed c.into_heap-heap.ensures c.freed.new.heap.plain
+    (sym freed.more.chunks))
 
 pub give-requires-2-clause-gives : goal.give-requires-2-clause-gives
 give-requires-2-clause-gives g c =

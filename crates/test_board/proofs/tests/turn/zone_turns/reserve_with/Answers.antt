@@ -3,7 +3,8 @@ use Rattle.std.proofs.lemmas.Bool.{false≢true}
 use Rattle.hp_hall.specs.declared.kept.Kept.TheVariants.{Names}
 use Rattle.hp_board.proofs.KeptAt.{is_heap}
 use Rattle.test_board.proofs.ZoneKnown.{put_known}
-use Rattle.test_board.proofs.ZoneLemmas.{has_names, heap_given, heap_gives, heap_made, in_hand, names_given, names_gives, sits_heap}
+use Rattle.test_board.proofs.ZoneHands.{hand_claimed, in_hand}
+use Rattle.test_board.proofs.ZoneLemmas.{has_names, heap_given, heap_gives, heap_made, names_given, names_gives, sits_heap}
 use Rattle.test_board.proofs.ZoneNames.{put_allocated, put_goes}
 use Rattle.test_board.proofs.tests.turn.zone_turns.reserve_with.Goals as goal
 
@@ -22,6 +23,7 @@ give-requires-clause-gives g c =
     heap_gives id c.args.who c.args.made (c.args.made + 1) more c.take-kept.new.seat heap c.allocated.new.heap pen sits made.calls
     (in_hand was.mine c.take-kept.new.seat.mine c.take-kept.result heap pen c.take-kept.ensures.handed c.into_heap-heap.ensures)
     (λ none. absurd (false≢true (sym none ∙ has_names id c.args.who c.args.made _ c.args.names c.take-kept.new.seat sits refl)))
+    (hand_claimed was.mine c.take-kept.new.seat.mine c.take-kept.result heap pen c.take-kept.ensures.handed c.into_heap-heap.ensures c.allocated.new.heap.plain made.more.chunks)
 
 pub give-requires-2-clause-gives : goal.give-requires-2-clause-gives
 give-requires-2-clause-gives g c =
