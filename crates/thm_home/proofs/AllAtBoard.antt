@@ -1,5 +1,6 @@
 -- Where threads leave something all came home.
 use Rattle.std.proofs.Common.{◌≡◌, ◌∙◌, ◌⊎◌, ℕ, zero, suc, ◌<◌, ◌≤◌, List, [], ◌∷◌, length, map, Some, inl, inr, slice_get, refl, ap, sym, subst, arith}
+use Rattle.std.specs.List.{All}
 use Rattle.std.specs.List.Sorted.{IsPermutation}
 use Rattle.std.specs.Option.{option_map}
 use Rattle.std.specs.Prelude.{Contains, slice_index_or}
@@ -20,7 +21,7 @@ use Rattle.hp_script.specs.declared.workload.Workload.{Workload}
 use Rattle.hp_segs.specs.SegsView.{SegsView}
 use Rattle.hp_serve.specs.Party.{Party}
 use Rattle.hp_zone.specs.declared.names.Names.{Names as NamesView}
-use Rattle.hp_proc.specs.Handed.{AreNamesHanded, names_shown}
+use Rattle.hp_proc.specs.Handed.{AreNamesHanded, AreStatesHanded, names_shown}
 use Rattle.hp_proc.specs.Handing.{shared_of}
 use Rattle.hp_proc.specs.LinesDone.{Course, trace_of}
 use Rattle.hp_proc.specs.NamesLog.{changes_in, changes_made}
@@ -38,6 +39,7 @@ use Rattle.thm_moved.proofs.NamesAtBoard.{names_changed_at_board, names_handed_a
 use Rattle.thm_moved.proofs.NamesLeftAtBoard.{names_left_at_board}
 use Rattle.thm_moved.specs.AtBoard.{AllCameToTheirSeats, CameToItsSeat}
 use Rattle.thm_moved.specs.NamesLeft.{AreLeftSo}
+use Rattle.thm_home.proofs.StatesAtBoard.{states_at_board}
 use Rattle.thm_home.proofs.ThreadsHome.{came_to_it, on}
 use Rattle.thm_home.proofs.ThreadsMail.{index_there, posted_at}
 use Rattle.thm_home.proofs.WaysOfWorks.{first_seat}
@@ -342,3 +344,17 @@ unfolding all
 names_left_of_threads workload firsts answers heaps segs names tables watchers given declared leave =
     names_left_at_board workload answers heaps segs tables
     (all workload firsts answers heaps segs names tables watchers given declared leave)
+
+-- so are the states of heaps that each is handed
+pub states_of_threads : (workload : Workload) (firsts : List ParticipantView) (answers : List Answer) (heaps : List HeapView)
+    (segs : SegsView) (names : NamesView) (tables : List Table) (watchers : List WatchersView) (given : IsGiven workload)
+    (declared : AreDeclared workload.participants workload.lines.items)
+    (leave : ThreadsLeave workload firsts answers heaps segs names tables watchers) (who : ℕ)
+    → All (AreStatesHanded who (trace_of
+    ((home_of_threads workload firsts answers heaps segs names tables watchers given declared leave).home.courses who))) heaps
+unfolding home_of_threads all
+states_of_threads workload firsts answers heaps segs names tables watchers given declared leave who =
+    let at = all workload firsts answers heaps segs names tables watchers given declared leave in
+    let so = home_at_board workload answers heaps segs tables at in
+    subst (λ (courses : ℕ → List Course). All (AreStatesHanded who (trace_of (courses who))) heaps) (sym so.courses_are)
+    (states_at_board workload answers heaps segs tables at who)

@@ -15,3 +15,6 @@ pub mod StatsAtBoard
 pub mod ThreadsStats
 mod FirstLines
 mod SeatsTold
+mod SeenStates
+mod TakenFronts
+pub mod StatesAtBoard

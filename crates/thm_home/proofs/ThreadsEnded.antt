@@ -16,14 +16,13 @@ use Rattle.hp_segs.specs.SegsView.{SegsView}
 use Rattle.hp_segs.specs.declared.ask.Ask.{Ask}
 use Rattle.hp_zone.specs.declared.names.Names.{Names as NamesView}
 use Rattle.hp_serve.specs.Party.{Party}
-use Rattle.hp_proc.specs.Handed.{AreNamesHanded, names_shown}
+use Rattle.hp_proc.specs.Handed.{AreHanded}
 use Rattle.hp_proc.specs.Handing.{shared_of}
 use Rattle.hp_proc.specs.Heaps.{sockets_of}
 use Rattle.hp_proc.specs.LinesDone.{Course, courses_of, trace_of}
 use Rattle.hp_proc.specs.NamesLog.{changes_in, changes_made}
 use Rattle.hp_proc.specs.ParticipantView.{ParticipantView}
 use Rattle.hp_proc.specs.RunEnds.{did_of}
-use Rattle.hp_proc.specs.SharedNames.{no_changes}
 use Rattle.thm_run.proofs.PathSteps.Walked.{get_there}
 use Rattle.thm_run.specs.EndLaws.{FailsFor, IsGiven}
 use Rattle.thm_run.specs.SoFar.{AreSoundNames, first_segs}
@@ -41,7 +40,7 @@ use Rattle.thm_together.specs.CameHome.{courses_in_order}
 use Rattle.thm_together.specs.Failing as home
 use Rattle.hp_threads.specs.Running.{ThreadsLeave}
 use Rattle.thm_moved.specs.NamesLeft.{AreLeftSo}
-use Rattle.thm_home.proofs.AllAtBoard.{home_of_threads, names_changed_of_threads, names_handed_of_threads, names_left_of_threads}
+use Rattle.thm_home.proofs.AllAtBoard.{home_of_threads, names_changed_of_threads, names_handed_of_threads, names_left_of_threads, states_of_threads}
 use Rattle.thm_home.specs.EndOfThreads.{CameHomeFrom, EndOfThreads, FailAsBrought, MayFailAt, MayFailSo, ThreadsEnd}
 
 module _ (workload : Workload) (firsts : List ParticipantView) (answers : List Answer) (heaps : List HeapView) (segs : SegsView)
@@ -99,7 +98,7 @@ module _ (workload : Workload) (firsts : List ParticipantView) (answers : List A
     agree : AreAgreedNames names (left_naming heaps) segs.ranges
     left : AreLeftSo workload (shared_of names) heaps segs tables
     changed : IsPermutation (changes_made workload.participants (λ who. trace_of (came.home.courses who))) (changes_in (shared_of names))
-    handed : (who : ℕ) → AreNamesHanded (shared_of names) (names_shown no_changes (trace_of (came.home.courses who)))
+    handed : (who : ℕ) → AreHanded (shared_of names) heaps who (trace_of (came.home.courses who))
 
   all : (names : NamesView) → HasNames names → ThreadsEnd workload firsts answers heaps segs names tables
   all names has =
@@ -116,11 +115,9 @@ module _ (workload : Workload) (firsts : List ParticipantView) (answers : List A
             (sym ended.1)
             (subst (λ (own : ℕ → List Course). IsPermutation (changes_made workload.participants (λ who. trace_of (own who)))
             (changes_in (shared_of names))) each_is has.changed);
-        handed_names = λ who.
-            subst (λ (courses : List Course). AreNamesHanded (shared_of names) (names_shown no_changes (trace_of (courses_of who courses))))
-            (sym ended.1)
-            (subst (λ (own : List Course). AreNamesHanded (shared_of names) (names_shown no_changes (trace_of own))) (sym (own_is who))
-            (has.handed who));
+        handed = λ who.
+            subst (λ (courses : List Course). AreHanded (shared_of names) heaps who (trace_of (courses_of who courses))) (sym ended.1)
+            (subst (λ (own : List Course). AreHanded (shared_of names) heaps who (trace_of own)) (sym (own_is who)) (has.handed who));
         failed = subst (λ (courses : List Course). FailAsBrought firsts courses segs.asks) (sym ended.1) failed;
         alike = ends_alike workload answers heaps segs tables ended.0;
         pages = end_pages_alike workload answers heaps segs tables ended.0;
@@ -141,7 +138,10 @@ end_of_threads workload firsts answers heaps segs names tables watchers given de
       agree = leave.names_are.agreed;
       left = names_left_of_threads workload firsts answers heaps segs names tables watchers given declared leave;
       changed = names_changed_of_threads workload firsts answers heaps segs names tables watchers given declared leave;
-      handed = names_handed_of_threads workload firsts answers heaps segs names tables watchers given declared leave;
+      handed = λ who. record {
+          shown = names_handed_of_threads workload firsts answers heaps segs names tables watchers given declared leave who;
+          states = states_of_threads workload firsts answers heaps segs names tables watchers given declared leave who;
+      };
     })
 
 -- its lines are those with which all came home

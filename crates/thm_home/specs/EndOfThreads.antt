@@ -20,14 +20,13 @@ use Rattle.hp_segs.specs.declared.ask.Ask.{Ask}
 use Rattle.hp_segs.specs.declared.outcome.AskLog.{AskLog}
 use Rattle.hp_zone.specs.declared.names.Names.{Names as NamesView}
 use Rattle.hp_proc.specs.Ends.{IsEnd}
-use Rattle.hp_proc.specs.Handed.{AreNamesHanded, names_shown}
+use Rattle.hp_proc.specs.Handed.{AreHanded}
 use Rattle.hp_proc.specs.Handing.{shared_of}
 use Rattle.hp_proc.specs.Heaps.{sockets_of}
-use Rattle.hp_proc.specs.LinesDone.{Course, courses_of, trace_of}
+use Rattle.hp_proc.specs.LinesDone.{Course, courses_of}
 use Rattle.hp_proc.specs.NamesLog.{changes_in, changes_made}
 use Rattle.hp_proc.specs.ParticipantView.{ParticipantView}
 use Rattle.hp_proc.specs.RunEnds.{did_of}
-use Rattle.hp_proc.specs.SharedNames.{no_changes}
 use Rattle.thm_run.specs.EndLaws.{FailsFor, IsFailedMapping, IsGiven, IsRefusedMapping}
 use Rattle.thm_run.specs.Handing.{HaveStatistics, HaveWatchers, listeners_in}
 use Rattle.thm_run.specs.Seats.{Seat}
@@ -66,7 +65,8 @@ pub record FailAsBrought (firsts : List ParticipantView) (courses : List Course)
 
 -- What participants leave that began so and did their lines on threads: an end of the workload, with names that opened with the heaps of its sockets,
 -- that have the changes of the lines and no others, and that agree with the heaps and with the claimed external memory: directory, chunks, memzones and
--- marks; what lines are handed of them are fronts of these and never grow shorter from line to line. Mappings failed only as the mappers may that they brought; all who are attached map what is in use alike, each page of a heap with it, and a growth that
+-- marks; what lines are handed of them and of the states of heaps are fronts of what there is and never grow shorter from line to line. Mappings failed
+-- only as the mappers may that they brought; all who are attached map what is in use alike, each page of a heap with it, and a growth that
 -- failed left no row; a line that is answered that there is no memory found no address in its heaps and was granted nothing; and the segment
 -- value came about by calls, each under its condition, among which each growth that failed left all else as the other calls meanwhile would have
 -- left it, in the tables too.
@@ -78,7 +78,7 @@ pub record ThreadsEnd (workload : Workload) (firsts : List ParticipantView) (ans
   pub end : IsEnd workload answers heaps segs tables
   pub left : AreLeftSo workload (shared_of names) heaps segs tables
   pub changed : IsPermutation (changes_made workload.participants (did_of end.courses)) (changes_in (shared_of names))
-  pub handed_names : (who : ℕ) → AreNamesHanded (shared_of names) (names_shown no_changes (trace_of (courses_of who end.courses)))
+  pub handed : (who : ℕ) → AreHanded (shared_of names) heaps who (did_of end.courses who)
   pub failed : FailAsBrought firsts end.courses segs.asks
   pub alike : TablesAlike segs tables
   pub pages : PagesAlike heaps segs tables
