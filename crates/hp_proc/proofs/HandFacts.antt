@@ -5,13 +5,16 @@ pub mod HandAsked
 pub mod HandAttaches
 pub mod HandCalls
 pub mod HandCut
+pub mod HandDone
 pub mod HandExternal
 pub mod HandGiven
 pub mod HandGrown
 pub mod HandLeaves
+pub mod HandKept
 pub mod HandMarks
 pub mod HandMoved
 pub mod HandSearched
+pub mod HandNamed
 pub mod HandTied
 pub mod HandTried
 pub mod HeldBack

@@ -1,4 +1,5 @@
 pub mod AddressLies
+mod AgreedLater
 pub mod AllocFacts
 pub mod AttachedLines
 pub mod HandFacts
@@ -6,6 +7,7 @@ pub mod ChosenHeaps
 pub mod ChunkLies
 mod ChunksLeft
 pub mod Continued
+mod ExternalMeant
 pub mod FoundZones
 pub mod HallMoments
 pub mod Halted
@@ -22,6 +24,9 @@ pub mod Lookups
 pub mod MadeHeaps
 pub mod Makers
 pub mod Mapped
+mod HeldArms
+mod LeftHere
+mod MadeHere
 mod MarksApart
 mod MayAttachHere
 pub mod MeantHeaps
@@ -38,6 +43,7 @@ pub mod OrdinaryElements
 pub mod PagesStay
 pub mod PlacesRead
 pub mod Plans
+mod Permuted
 mod PoolsFrom
 mod Registered
 mod RegisteredHere
