@@ -1,5 +1,6 @@
 pub mod BesideNames
 pub mod Boxed
+pub mod HandAllocates
 pub mod HandAsked
 pub mod HandAttaches
 pub mod HandCalls
@@ -12,9 +13,11 @@ pub mod HandLeaves
 pub mod HandKept
 pub mod HandMarks
 pub mod HandMoved
+pub mod HandSearched
 pub mod HandNamed
 pub mod HandTied
 pub mod HandTried
+pub mod HeldBack
 pub mod HeldOn
 pub mod Holds
 pub mod OnceHeld

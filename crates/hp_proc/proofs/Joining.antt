@@ -122,7 +122,7 @@ module _ {held more : List ℕ} (count : ℕ) (here_did there_did did : List Mai
       (subst (λ (who : ℕ). AreAsked new.log new.asks who mid.party.asked new.party.asked there.trace) here.same.me there.asked)
 
   -- what was done, and what was done after it
-  pub does_then : Does (held ++ more) count did doing rest old new
+  unfoldable pub does_then : Does (held ++ more) count did doing rest old new
   does_then = record {
     trace = whole;
     steps = here.steps ++ there.steps;
@@ -161,7 +161,7 @@ context_still old new same =
     (ap (λ (calls : ℕ). record old { calls = calls }) (omega arith))
 
 -- nothing of its line was done but that heaps were taken and given, while the log and the outcomes went on
-pub does_still : {held : List ℕ} (count : ℕ) (did : List MailStep → Type 0) (doing : Doing) (old new : Moment) (steps : List MailStep)
+unfoldable pub does_still : {held : List ℕ} (count : ℕ) (did : List MailStep → Type 0) (doing : Doing) (old new : Moment) (steps : List MailStep)
     → did steps → Acts count old.hand new.hand held (doer_at old) (doer_at new) [] steps
     → ((heap : ℕ) → (new.parts heap).entries ≡ (old.parts heap).entries)
     → ((heap : ℕ) → (new.parts heap).serves ≡ (old.parts heap).serves) → IsSameParty old.party new.party
@@ -186,7 +186,7 @@ does_still {held} count did doing old new steps made acts entries serves same kn
 }
 
 -- nothing was done
-pub does_same : (count : ℕ) (did : List MailStep → Type 0) (doing : Doing) (moment : Moment) → did []
+unfoldable pub does_same : (count : ℕ) (did : List MailStep → Type 0) (doing : Doing) (moment : Moment) → did []
     → Does [] count did doing doing moment moment
 does_same count did doing moment none =
     does_still count did doing moment moment [] none (Acts.nothing moment.hand (doer_at moment)) (λ heap. refl) (λ heap. refl)

@@ -4,6 +4,7 @@ pub mod AllocFacts
 pub mod AttachedLines
 pub mod HandFacts
 pub mod ChosenHeaps
+pub mod ChunkLies
 mod ChunksLeft
 pub mod Continued
 mod ExternalMeant
@@ -16,8 +17,10 @@ pub mod LawLemmas
 pub mod LeastData
 pub mod LineEnds
 pub mod LineFacts
+pub mod LinesApart
 pub mod LinesInHall
 pub mod LinesOrdered
+pub mod Lookups
 pub mod MadeHeaps
 pub mod Makers
 pub mod Mapped
@@ -27,8 +30,10 @@ mod MadeHere
 mod MarksApart
 mod MayAttachHere
 pub mod MeantHeaps
+pub mod NamedPlaces
 pub mod NamesFollow
 pub mod NamesAround
+pub mod WhosePages
 mod NamesHeld
 mod NamesRead
 pub mod NotedCame
@@ -36,13 +41,14 @@ pub mod NotedLeft
 pub mod Noted
 pub mod OrdinaryElements
 pub mod PagesStay
+pub mod PlacesRead
 pub mod Plans
 mod Permuted
 mod PoolsFrom
 mod Registered
 mod RegisteredHere
 pub mod RegisteredLines
-mod ReleasedMemory
+pub mod ReleasedMemory
 pub mod ServesAside
 pub mod WaitsAside
 mod SharedMarks
@@ -52,5 +58,6 @@ pub mod SocketHeapLemmas
 pub mod SocketNames
 mod StatsLines
 pub mod StepsOrdered
+pub mod TreeDeeds
 pub mod Unarmed
 pub mod WorkedLines

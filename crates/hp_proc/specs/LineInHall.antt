@@ -8,7 +8,7 @@ use Rattle.hp_base.specs.declared.row.Row.{Row}
 use Rattle.hp_hall.specs.Giving.{IsGiveOf}
 use Rattle.hp_hall.specs.HallState.{Did, HallState, HasMapped, IsLater, OthersStay, SlotsStay, known_to}
 use Rattle.hp_hall.specs.Holding.{IsPartBeside}
-use Rattle.hp_hall.specs.Mail.{MailStep, Takes}
+use Rattle.hp_hall.specs.Mail.{Gives, MailStep, Takes}
 use Rattle.hp_hall.specs.Naming.{marked_by}
 use Rattle.hp_hall.specs.Own.{rows_known}
 use Rattle.hp_hall.specs.Telling.{has_names}
@@ -27,12 +27,14 @@ use Rattle.hp_script.specs.declared.options.SocketChoice.{SocketChoice}
 use Rattle.hp_proc.specs.Acting.{Acts}
 use Rattle.hp_proc.specs.Awaiting.{MayAwait}
 use Rattle.hp_proc.specs.Doing.{Doing}
+use Rattle.hp_proc.specs.Doing.Done.{NamesRead}
 use Rattle.hp_proc.specs.Halting.{Halts, HaltsLine}
 use Rattle.hp_proc.specs.Handing.{shared_of}
 use Rattle.hp_proc.specs.Heaps.{has_name, heaps_for, socket_heaps, sockets_of}
 use Rattle.hp_proc.specs.Contexts.{IsPlaceOf}
 use Rattle.hp_proc.specs.Courses.{heap_of_element}
 use Rattle.hp_proc.specs.Lines.{Maker, is_own_maker, reading_names}
+use Rattle.hp_proc.specs.NamesOfLines.{steps_of_names}
 use Rattle.hp_proc.specs.OwnChunks.{AreMarkedAs}
 use Rattle.hp_proc.specs.PlaceLists.{place_named}
 use Rattle.hp_proc.specs.declared.searched_heap.SearchedHeap.{SearchedHeap}
@@ -136,6 +138,11 @@ pub record AreFreeBesideNames (slot me : ℕ) (old new : HallState) : Type 0 whe
 -- it may give a heap back as far as the names go: they are in nobody's hand that its hall shows, or in its own, as its steps tell
 abbrev pub MayGiveBeside : ℕ → HallState → Type 0
 MayGiveBeside me state = (state.taken NAMES_SLOT ≡ None) ⊎ (has_names (state.done me) ≡ true)
+
+-- it has the names in hand: by its steps, and their value is out
+pub record HasNamesOut (me : ℕ) (state : HallState) : Type 0 where
+  pub told : has_names (state.done me) ≡ true
+  pub out : state.taken NAMES_SLOT ≢ None
 
 -- the slot is free: it is not out, and may be taken
 pub record IsFreeAt (slot : ℕ) (state : HallState) : Type 0 where
@@ -289,6 +296,12 @@ pub record HoldsNames (me : ℕ) (old new : ParticipantView) (names : NamesView)
   pub acts : Acts from.count None None [] old new [] waited
   pub later : IsLater from to
 
+-- it read the names, and did nothing else
+pub record ReadsNames (me : ℕ) (old new : ParticipantView) (names : NamesView) (from to : HallState) (goes : SharedNames → Doing) : Type 0 where
+  pub does : DoesHere [] me old new from to (reading_names goes) (goes (shared_of names))
+  pub trace : does.trace ≡ NamesRead (shared_of names) ∷ []
+  pub steps : steps_of_names does.steps ≡ Takes NAMES_SLOT (Names names) ∷ Gives NAMES_SLOT (Names names) ∷ []
+
 -- it has read the names under their slot, and gave them back as they were; by them the directory of heaps is what their changes leave, and each
 -- heap that has a name there takes the pages of the socket that has its place, or nobody's
 pub record HasRead (me : ℕ) (old new : ParticipantView) (names : NamesView) (from to : HallState) : Type 0 where
@@ -296,7 +309,7 @@ pub record HasRead (me : ℕ) (old new : ParticipantView) (names : NamesView) (f
   pub leaves : names.heaps.plain ≡ directory_in old.context.pools (shared_of names)
   pub places : All (λ heap. IsPlaceOf old.context.pools (place_named heap)) (heaps_in names.heaps.plain)
   pub context : new.context ≡ old.context
-  pub reads : (goes : SharedNames → Doing) → DoesHere [] me old new from to (reading_names goes) (goes (shared_of names))
+  pub reads : (goes : SharedNames → Doing) → ReadsNames me old new names from to goes
 
 -- and the text names that heap there, or none; or those are all heaps there
 pub record HasReadNames (me : ℕ) (old new : ParticipantView) (text : List ℕ) (found : Option SearchedHeap) (from to : HallState) : Type 0 where
@@ -325,6 +338,7 @@ ChoosesPlaces me old new options places same from to = ChoosesBy me old new opti
 abbrev pub FindsBy : Bool → ℕ → ParticipantView → ParticipantView → Maker → List SearchedHeap → Type 0 → HallState → HallState → Type 0
 FindsBy true me old new maker places same from to = (new ≡ old) × same
     × (places ≡ option_to_list (heap_of_element old.context.pools old.context.standing.elements (Some maker)))
+    × All (IsPlaceOf old.context.pools) places
 FindsBy false me old new maker places same from to = HasReadAll me old new places from to
 
 abbrev pub FindsPlaces : ℕ → ParticipantView → ParticipantView → Maker → List SearchedHeap → Type 0 → HallState → HallState → Type 0

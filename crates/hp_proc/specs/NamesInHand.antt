@@ -2,6 +2,7 @@
 use Rattle.std.specs.Prelude.{◌≡◌, ℕ, ◌==◌, List, [], ◌∷◌, Ok, Some, None, true, if◌then◌else◌}
 use Rattle.std.specs.Option.{option_map}
 use Rattle.hp_hall.specs.Giving.{IsGiveOf}
+use Rattle.hp_hall.specs.HallCalls.{HasGiven}
 use Rattle.hp_hall.specs.HallState.{Did, HallState, OthersStay, SlotsStayBut, known_to}
 use Rattle.hp_hall.specs.Holding.{AgreeWith, HeapPart}
 use Rattle.hp_hall.specs.Named.{GivesNames}
@@ -88,8 +89,7 @@ pub record MayGiveNames (me : ℕ) (doer : ParticipantView) (names : NamesView) 
 
 -- it gave the names back, and nothing else changed
 pub record GivesNamesBack (me : ℕ) (doer : ParticipantView) (names : NamesView) (old new : HallState) : Type 0 where
-  pub free : new.taken NAMES_SLOT ≡ None
-  pub home : new.may_take NAMES_SLOT
+  pub given : HasGiven me NAMES_SLOT (Names names) old new
   pub slots : SlotsStayBut NAMES_SLOT old new
   pub others : OthersStay me old new
 

@@ -18,9 +18,8 @@ ghost use Rattle.hp_proc.specs.PlaceLists.{place_list, place_named};
 ghost use Rattle.hp_proc.specs.Progress.{AreOnce, Brings, IsAllocation, Tries};
 ghost use Rattle.hp_proc.specs.declared.searched_heap.SearchedHeap.{SearchedHeap};
 ghost use Rattle.hp_hall.specs.HallState.{IsBusy};
-ghost use Rattle.hp_hall.specs.Telling.{has_names};
 ghost use Rattle.hp_hall.specs.declared.slot.TheConstants.{NAMES_SLOT};
-ghost use Rattle.hp_proc.specs.LineInHall.{ChoosesPlaces, DoesLineHere, HaltsHeld, HaltsHere, HaltsLineHere, HasCalledBeside, HasRoom, HoldsIn, IsBesideTheNames, IsKnownMapped, IsMapped, IsReadyAgain, IsReadyBut, IsReadyIn, KeepsHeld, MayGiveBeside, did_in, moment, moment_with};
+ghost use Rattle.hp_proc.specs.LineInHall.{ChoosesPlaces, DoesLineHere, HaltsHeld, HaltsHere, HaltsLineHere, HasCalledBeside, HasNamesOut, HasRoom, HoldsIn, IsBesideTheNames, IsKnownMapped, IsMapped, IsReadyAgain, IsReadyBut, IsReadyIn, KeepsHeld, MayGiveBeside, did_in, moment, moment_with};
 ghost use Rattle.hp_proc.specs.ZonesInHand.{AgreeOnceAnswered, AgreeOnceAnsweredIn, answer_of, last_answer_of, last_heap_of};
 
 use super::Participant;
@@ -66,7 +65,7 @@ impl<'p, M: Mapper, F: Decide + Copy + Drop> Participant<'p, M, F> {
         requires of_socket { heap.old.plain.serves ≡ place.now.serves }
         requires room { HasRoom 3 heap.old self.old }
         requires beside { MayGiveBeside self.old.party.me (H.state hall.old) }
-        requires named { tag.zone ≡ true → has_names ((H.state hall.old).done self.old.party.me) ≡ true }
+        requires named { tag.zone ≡ true → HasNamesOut self.old.party.me (H.state hall.old) }
         ensures does { IfOk result (λ given. (its : NamedHeap) (heaps : List NamedHeap) → place_named its ≡ place.now
             → Tries place.now.index [] (H.state hall.old).count
             (did_in self.old.party.me (H.state hall.old)
@@ -117,7 +116,7 @@ impl<'p, M: Mapper, F: Decide + Copy + Drop> Participant<'p, M, F> {
         requires place { IsPlaceOf self.old.context.pools place.now }
         requires ready { IsReadyBut NAMES_SLOT self.old.party.me self.old (H.state hall.old) }
         requires beside { MayGiveBeside self.old.party.me (H.state hall.old) }
-        requires named { tag.zone ≡ true → has_names ((H.state hall.old).done self.old.party.me) ≡ true }
+        requires named { tag.zone ≡ true → HasNamesOut self.old.party.me (H.state hall.old) }
         ensures does { IfOk result (λ given. (its : NamedHeap) (heaps : List NamedHeap) → place_named its ≡ place.now
             → Tries place.now.index (place.now.index ∷ []) (H.state hall.old).count
             (did_in self.old.party.me (H.state hall.old)
@@ -154,7 +153,7 @@ impl<'p, M: Mapper, F: Decide + Copy + Drop> Participant<'p, M, F> {
         requires apart { AreOnce (map (λ place. place.index) places.now) }
         requires ready { IsReadyBut NAMES_SLOT self.old.party.me self.old (H.state hall.old) }
         requires beside { MayGiveBeside self.old.party.me (H.state hall.old) }
-        requires named { tag.zone ≡ true → has_names ((H.state hall.old).done self.old.party.me) ≡ true }
+        requires named { tag.zone ≡ true → HasNamesOut self.old.party.me (H.state hall.old) }
         ensures does { IfOk result (λ given. (heaps : List NamedHeap) → map place_named heaps ≡ places.now
             → Brings given.1 (H.state hall.old).count
             (did_in self.old.party.me (H.state hall.old)
