@@ -15,10 +15,6 @@ pub mod HandMarks
 pub mod HandMoved
 pub mod HandNamed
 pub mod HandSearched
-pub mod HandSearched
-pub mod HandNamed
-pub mod HandSearched
-pub mod HandNamed
 pub mod HandTied
 pub mod HandTraded
 pub mod HandTried

@@ -56,6 +56,7 @@ mod Registered
 mod RegisteredHere
 pub mod RegisteredLines
 pub mod ReleasedMemory
+pub mod RemovedHere
 pub mod ServesAside
 pub mod WaitsAside
 pub mod ServedLines
