@@ -22,6 +22,12 @@ use Rattle.hp_proc.proofs.Joining.{does_still}
 use Rattle.hp_proc.proofs.LineFacts.{apart_idle, facts_for, facts_known, hands_first, has_request, holds_none, line_whole}
 use Rattle.hp_proc.proofs.TreeDeeds.{acts_unnamed}
 
+-- the tree of such a line
+await_tree : (line : Line) (other lines : ℕ) → line.act ≡ act.Await other lines → (facts : Facts)
+    → Doing.Ended answer.Done ≡ doing_of line line.act facts
+unfolding doing_of
+await_tree line other lines its_act facts = ap (λ (deed : Act). doing_of line deed facts) (sym its_act)
+
 -- nothing was done of it but that it waited, and looked up the lines last
 record HasWaitedFor (count : ℕ) (did : List MailStep → Type 0) (other lines : ℕ) (doing : Doing) (old new : Moment) : Type 0 where
   does : Does [] count did doing (Doing.Ended answer.Done) old new
@@ -55,13 +61,9 @@ module _ (count : ℕ) (did : List MailStep → Type 0) (other lines found : ℕ
       let request = has_request line.act in
       let facts : Facts = facts_for old.party.socket old.context line.act request.0 in
       let its : HasWaitedFor count did other lines (doing_of line line.act facts) old new =
-      subst (λ (doing : Doing). HasWaitedFor count did other lines doing old new) (tree facts)
+      subst (λ (doing : Doing). HasWaitedFor count did other lines doing old new) (await_tree line other lines its_act facts)
       (waited_for made acts entries serves same known asked more log outcomes asks) in
       line_whole count did line answer.Done old new facts (act.Await other lines)
       (facts_known old.party.socket old.context line request.0 request.1) (record { held = []; once = once_none; does = its.does }) its.names
       (hands_first line.act its.does.steps (apart_idle empty ends its.does))
       (subst (λ (deed : Act). HasAwaited deed its.does.steps) (sym its_act) its.last) empty (ap (with_calls new.context.calls) known) its_act tt tt
-    where
-      tree : (facts : Facts) → Doing.Ended answer.Done ≡ doing_of line line.act facts
-      unfolding doing_of
-      tree facts = ap (λ (deed : Act). doing_of line deed facts) (sym its_act)

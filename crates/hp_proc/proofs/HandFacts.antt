@@ -13,13 +13,8 @@ pub mod HandLeaves
 pub mod HandKept
 pub mod HandMarks
 pub mod HandMoved
-<<<<<<< HEAD
 pub mod HandNamed
 pub mod HandSearched
-=======
-pub mod HandSearched
-pub mod HandNamed
->>>>>>> origin/hands
 pub mod HandTied
 pub mod HandTraded
 pub mod HandTried

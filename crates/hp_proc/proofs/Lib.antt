@@ -56,7 +56,7 @@ mod Registered
 mod RegisteredHere
 pub mod RegisteredLines
 pub mod ReleasedMemory
-mod RemovedHere
+pub mod RemovedHere
 pub mod ServesAside
 pub mod WaitsAside
 pub mod ServedLines
