@@ -8,11 +8,13 @@ use Rattle.hp_base.specs.declared.chunk.Chunk.{Chunk}
 use Rattle.hp_base.specs.declared.limits.TheConstants.{MAX_HEAPS, MAX_SEGMENTS}
 use Rattle.hp_base.specs.declared.pool_line.PoolLine.{PoolLine}
 use Rattle.hp_base.specs.declared.row.Row.{Row}
+use Rattle.hp_events.specs.declared.validator.Validator.{Validator}
 use Rattle.hp_external.proofs.ChunkLemmas.{among_chunks}
 use Rattle.hp_external.specs.Attaching.{Attaches, IsAttachFault, IsFailedCall, IsMapFault, MayAttach, SameButRows}
 use Rattle.hp_external.specs.Naming.{IsNamedChunk}
 use Rattle.hp_external.specs.declared.fault.AttachFault.TheVariants as attach
 use Rattle.hp_external.specs.declared.fault.AttachFault.{AttachFault}
+use Rattle.hp_hall.proofs.HallStates.{others_same}
 use Rattle.hp_hall.proofs.NamesLeft.{call_leaves}
 use Rattle.hp_hall.specs.AgreedNames.{AreAgreedNames}
 use Rattle.hp_hall.specs.HallState.{Did, HallState}
@@ -52,13 +54,14 @@ use Rattle.hp_proc.specs.MappedChunks.{MapsChunk}
 use Rattle.hp_proc.specs.MarksInHand.{HoldsNamedMarked, KeepsMarked}
 use Rattle.hp_proc.specs.NamesInHand.{DoesNamedHeld}
 use Rattle.hp_proc.specs.OwnChunks.{chunks_of, with_own_chunk}
-use Rattle.hp_proc.specs.ParticipantView.{ParticipantView, after_call, noting_chunks, with_party}
+use Rattle.hp_proc.specs.ParticipantView.{ParticipantView, after_call, noting_chunks, participant_of, with_party}
 use Rattle.hp_proc.specs.Progress.{caller_of}
 use Rattle.hp_proc.specs.declared.own_chunk.OwnChunk.{OwnChunk}
 use Rattle.hp_script.specs.declared.answer.Answer.TheVariants as answer
 use Rattle.hp_script.specs.declared.answer.Answer.{Answer}
 use Rattle.hp_segs.specs.LogPlaces.{LogIsPlaced, RangesAreOutside, SlotsAreFew}
 use Rattle.hp_segs.specs.SegsView.{SegsView}
+use Rattle.hp_serve.proofs.Carrying.{same_party}
 use Rattle.hp_serve.proofs.SegmentSlots.{Took}
 use Rattle.hp_serve.specs.Party.{IsSameParty, Party, with_maps}
 use Rattle.hp_serve.specs.SegmentSlot.{PutsBack, StaysButParts}
@@ -231,6 +234,34 @@ attaches_noted text addr len old mid new plain heap next only attaches noted =
       attaches = subst (λ (m : MapsView). Attaches (caller_of old) plain text addr len heap next old.party.maps m) maps attaches;
       noted = is ∙ ap (λ (m : MapsView). noting_chunks kept (after_call (with_party (with_maps m old.party) old))) maps;
     }
+
+-- it noted the chunk
+pub notes_chunk : {party : Party} {validators : List (Validator Bool)} {context noted : Context} {mid counted old : ParticipantView}
+    {party' : Party} {validators' : List (Validator Bool)} {first : Context} {items : List OwnChunk} {index at addr len : ℕ}
+    → participant_of party validators context ≡ counted → counted ≡ after_call mid → noted ≡ with_chunks items context
+    → items ≡ with_own_chunk (record { heap = index; addr = addr; len = len }) first.standing.chunks → participant_of party' validators' first ≡ old
+    → index ≡ at
+    → participant_of party validators noted
+    ≡ noting_chunks (with_own_chunk (record { heap = at; addr = addr; len = len }) old.context.standing.chunks) (after_call mid)
+notes_chunk {party} {validators} {context} {noted} {mid} {counted} {old} {party'} {validators'} {first} {items} {index} {at} {addr} {len}
+    view counts notes are was same =
+    let kept : items ≡ with_own_chunk (record { heap = at; addr = addr; len = len }) old.context.standing.chunks =
+    are ∙ ap (λ (heap : ℕ). with_own_chunk (record { heap = heap; addr = addr; len = len }) first.standing.chunks) same
+    ∙ ap (λ (d : ParticipantView). with_own_chunk (record { heap = at; addr = addr; len = len }) d.context.standing.chunks) was in
+    ap (participant_of party validators) notes ∙ ap (noting_chunks items) (view ∙ counts)
+    ∙ ap (λ (chunks : List OwnChunk). noting_chunks chunks (after_call mid)) kept
+
+-- nothing was done
+pub nothing_keeps : (old : ParticipantView) (names : NamesView) (heap : HeapView) (state : HallState)
+    → HoldsNamedMarked old.party.me old names heap state → KeepsMarked old.party.me old old names heap heap state state
+nothing_keeps old names heap state holds = record {
+  holds = holds;
+  index = refl;
+  its_socket = refl;
+  same = same_party old.party;
+  pools = refl;
+  others = others_same old.party.me state;
+}
 
 -- IT IS NOT
 
