@@ -1,5 +1,6 @@
 pub mod BesideNames
 pub mod Boxed
+pub mod HandAgain
 pub mod HandAllocates
 pub mod HandAsked
 pub mod HandAttaches
