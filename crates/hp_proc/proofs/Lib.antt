@@ -1,6 +1,7 @@
 pub mod AddressLies
 mod AgreedLater
 pub mod AllocFacts
+pub mod AllocLines
 pub mod AttachedLines
 pub mod HandFacts
 pub mod ChosenHeaps
@@ -35,6 +36,7 @@ pub mod MeantHeaps
 pub mod NamedPlaces
 pub mod NamesFollow
 pub mod NamesAround
+pub mod NamesBeside
 mod NamesHeld
 mod NamesRead
 pub mod NotedCame
@@ -51,6 +53,7 @@ pub mod RegisteredLines
 pub mod ReleasedMemory
 pub mod ServesAside
 pub mod WaitsAside
+pub mod ServedLines
 mod SharedMarks
 mod Reservations
 pub mod Rising
