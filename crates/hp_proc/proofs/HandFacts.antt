@@ -8,6 +8,7 @@ pub mod HandCalls
 pub mod HandCut
 pub mod HandDone
 pub mod HandExternal
+pub mod HandFreed
 pub mod HandGiven
 pub mod HandGrown
 pub mod HandLeaves

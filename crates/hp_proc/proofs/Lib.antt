@@ -13,6 +13,7 @@ mod ExternalMeant
 pub mod FoundZones
 pub mod HallMoments
 pub mod Halted
+pub mod InHandUntold
 pub mod InTurn
 pub mod Joining
 pub mod LawLemmas
