@@ -69,3 +69,4 @@ pub mod WorkedLines
 pub mod ZoneAgrees
 pub mod ZoneElements
 pub mod ZoneNames
+mod ZonesWithout

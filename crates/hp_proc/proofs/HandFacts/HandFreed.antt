@@ -1,5 +1,5 @@
 -- A memzone goes with the names and its heap in hand, and its element is freed.
-use Rattle.std.proofs.Common.{◌≡◌, ◌≢◌, ◌∙◌, ℕ, ◌+◌, ◌<◌, suc, drop, take, get_or, eq-eqb, eqb, List, [], ◌∷◌, ◌++◌, append-nil, append_assoc, map, Option, None, Some, true, refl, ap, ap₂, sym, subst, inl, inr, arith}
+use Rattle.std.proofs.Common.{◌≡◌, ◌≢◌, ◌∙◌, ℕ, ◌+◌, ◌<◌, drop, take, get_or, eq-eqb, eqb, List, [], ◌∷◌, ◌++◌, append-nil, append_assoc, map, Option, None, Some, true, refl, ap, ap₂, sym, subst, inl, inr, arith}
 use Rattle.std.specs.List.{Contains, filter}
 use Rattle.std.proofs.lemmas.List.{drop_more, take-append-drop}
 use Rattle.std.proofs.lemmas.List.Elements.{Contains-append_cases}
@@ -25,7 +25,6 @@ use Rattle.hp_heap.specs.Tiling.{IsTiled}
 use Rattle.hp_heap.specs.declared.entry.Entry.{Entry}
 use Rattle.hp_heap.specs.declared.entry.HeapAnswer.TheVariants as gives
 use Rattle.hp_heap.specs.declared.entry.HeapCall.TheVariants as call
-use Rattle.hp_zone.proofs.ZoneLemmas.{remove_is_without}
 use Rattle.hp_zone.specs.Zones.{AreApart, Frees, IsFound}
 use Rattle.hp_zone.specs.declared.name_change.NameChange.{NameChange}
 use Rattle.hp_zone.specs.declared.names.Names.{Names as NamesView}
@@ -65,6 +64,7 @@ use Rattle.hp_proc.proofs.TreeDeeds.{IsNameless, nameless_changes, nameless_read
 use Rattle.hp_proc.proofs.ZoneAgrees.{free_more, less_agrees}
 use Rattle.hp_proc.proofs.ZoneElements.{zone_there}
 use Rattle.hp_proc.proofs.ZoneNames.{HasGone}
+use Rattle.hp_proc.proofs.ZonesWithout.{left_without}
 use Rattle.hp_serve.proofs.Carrying.{same_party}
 
 -- THE MEMZONE'S ELEMENT
@@ -97,19 +97,17 @@ pub gone_of : (names given : NamesView) (zone : Zone) (at : ℕ) → AreApart na
 gone_of names given zone at apart frees heaps there =
     let zones = names.zones.zones in
     let (i, within, is) = frees.found.there in
-    let next : i + 1 ≡ suc i = omega arith in
-    let tail : drop i zones ≡ zone ∷ drop (suc i) zones =
-    drop_more zones i zone within
-    ∙ (ap (λ (z : Zone). z ∷ drop (i + 1) zones) is ∙ ap (λ (n : ℕ). zone ∷ drop n zones) next) in
+    let tail : drop i zones ≡ zone ∷ drop (i + 1) zones =
+    drop_more zones i zone within ∙ ap (λ (z : Zone). z ∷ drop (i + 1) zones) is in
     record {
       zone = zone;
       at_is = refl;
       heap = there;
       front = take i zones;
-      back = drop (suc i) zones;
+      back = drop (i + 1) zones;
       were = sym (take-append-drop i zones) ∙ ap (λ (rest : List Zone). take i zones ++ rest) tail;
       are = frees.zones
-          ∙ sym (remove_is_without zones i zone.name zone within apart (ap (λ (z : Zone). z.name) is));
+          ∙ sym (left_without zones i zone.name zone within apart (ap (λ (z : Zone). z.name) is));
       heaps = heaps;
     }
 
