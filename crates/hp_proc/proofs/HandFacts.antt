@@ -1,5 +1,6 @@
 pub mod BesideNames
 pub mod Boxed
+pub mod Forgotten
 pub mod HandAllocates
 pub mod HandAsked
 pub mod HandAttaches
@@ -13,17 +14,13 @@ pub mod HandLeaves
 pub mod HandKept
 pub mod HandMarks
 pub mod HandMoved
-<<<<<<< HEAD
 pub mod HandNamed
 pub mod HandSearched
-=======
-pub mod HandSearched
-pub mod HandNamed
->>>>>>> origin/hands
 pub mod HandTied
 pub mod HandTried
 pub mod HeldBack
 pub mod HeldOn
+pub mod LeftBack
 pub mod Holds
 pub mod OnceHeld
 pub mod SeenHeap

@@ -8,6 +8,7 @@ pub mod ChunkLies
 mod ChunksLeft
 pub mod Continued
 mod ExternalMeant
+pub mod DetachedLines
 mod DumpLines
 pub mod FoundZones
 pub mod HallMoments
@@ -27,6 +28,8 @@ pub mod MadeHeaps
 pub mod Makers
 pub mod Mapped
 mod HeldArms
+mod LeavingOn
+mod LeftHeld
 mod LeftHere
 mod MadeHere
 mod MarksApart
