@@ -1,6 +1,7 @@
 pub mod BesideNames
 pub mod Boxed
 pub mod HandAgain
+pub mod Forgotten
 pub mod HandAllocates
 pub mod HandAsked
 pub mod HandAttaches
@@ -22,6 +23,7 @@ pub mod HandTraded
 pub mod HandTried
 pub mod HeldBack
 pub mod HeldOn
+pub mod LeftBack
 pub mod Holds
 pub mod OnceHeld
 pub mod SeenHeap

@@ -12,6 +12,8 @@ mod ChunkCame
 mod ChunksLeft
 pub mod Continued
 mod ExternalMeant
+pub mod DetachedLines
+mod DetachesHere
 mod DumpLines
 pub mod FoundZones
 pub mod HallMoments
@@ -32,6 +34,9 @@ pub mod MadeHeaps
 pub mod Makers
 pub mod Mapped
 mod HeldArms
+mod LeavingAll
+mod LeavingOn
+mod LeftHeld
 mod LeftHere
 mod MadeHere
 mod MappedHere
