@@ -81,3 +81,5 @@ pub mod ZoneAgrees
 pub mod ZoneElements
 pub mod ZoneNames
 mod ZonesWithout
+pub mod NamedTrees
+pub mod ThereDone
