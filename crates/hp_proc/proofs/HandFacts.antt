@@ -1,5 +1,6 @@
 pub mod BesideNames
 pub mod Boxed
+pub mod Forgotten
 pub mod HandAllocates
 pub mod HandAsked
 pub mod HandAttaches
@@ -20,6 +21,7 @@ pub mod HandTraded
 pub mod HandTried
 pub mod HeldBack
 pub mod HeldOn
+pub mod LeftBack
 pub mod Holds
 pub mod OnceHeld
 pub mod SeenHeap

@@ -12,6 +12,7 @@ mod ChunkCame
 mod ChunksLeft
 pub mod Continued
 mod ExternalMeant
+pub mod DetachedLines
 mod DumpLines
 pub mod FoundZones
 pub mod HallMoments
@@ -31,6 +32,8 @@ pub mod MadeHeaps
 pub mod Makers
 pub mod Mapped
 mod HeldArms
+mod LeavingOn
+mod LeftHeld
 mod LeftHere
 mod MadeHere
 mod MappedHere
