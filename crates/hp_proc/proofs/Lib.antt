@@ -1,5 +1,6 @@
 pub mod AddressLies
 mod AgreedLater
+pub mod AllocAgrees
 pub mod AllocFacts
 pub mod AllocLines
 pub mod AttachedLines
