@@ -22,5 +22,6 @@ pub mod HandTried
 pub mod HeldBack
 pub mod HeldOn
 pub mod Holds
+pub mod NamedBetween
 pub mod OnceHeld
 pub mod SeenHeap
