@@ -3,13 +3,16 @@ mod AgreedLater
 pub mod AllocFacts
 pub mod AllocLines
 pub mod AttachedLines
+pub mod AwaitedLines
 pub mod HandFacts
 pub mod ChosenHeaps
 pub mod ChunkLies
+mod AddedHere
+mod ChunkCame
 mod ChunksLeft
 pub mod Continued
-mod DumpLines
 mod ExternalMeant
+mod DumpLines
 pub mod FoundZones
 pub mod HallMoments
 pub mod Halted
@@ -23,14 +26,15 @@ pub mod LineFacts
 pub mod LinesApart
 pub mod LinesInHall
 pub mod LinesOrdered
-mod LookedUp
 pub mod Lookups
+mod LookedUp
 pub mod MadeHeaps
 pub mod Makers
 pub mod Mapped
 mod HeldArms
 mod LeftHere
 mod MadeHere
+mod MappedHere
 mod MarksApart
 mod MayAttachHere
 pub mod MeantHeaps
@@ -44,6 +48,7 @@ pub mod NotedCame
 pub mod NotedLeft
 pub mod Noted
 pub mod OrdinaryElements
+pub mod OwnNotes
 pub mod PagesStay
 pub mod Plans
 mod Permuted
@@ -52,6 +57,7 @@ mod Registered
 mod RegisteredHere
 pub mod RegisteredLines
 pub mod ReleasedMemory
+pub mod RemovedHere
 pub mod ServesAside
 pub mod WaitsAside
 pub mod ServedLines

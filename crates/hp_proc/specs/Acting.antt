@@ -18,7 +18,7 @@ use Rattle.hp_heap.specs.declared.entry.HeapCall.{HeapCall}
 use Rattle.hp_heap.specs.declared.entry.HeapCall.TheVariants as call
 use Rattle.hp_log.specs.declared.log_record.LogRecord.{LogRecord}
 use Rattle.hp_maps.specs.Events.{IsToldByAddress}
-use Rattle.hp_maps.specs.MapsView.{MapsView}
+use Rattle.hp_maps.specs.MapsView.{MapsView, chunk_rows}
 use Rattle.hp_segs.specs.LaterSteps.{after_leave}
 use Rattle.hp_segs.specs.Ranges.{after_claim_range, after_release_range, range_plan}
 use Rattle.hp_segs.specs.SegsView.{SegsView}
@@ -86,7 +86,7 @@ pub data Acts (count : ℕ) : Option ℕ → Option ℕ → List ℕ → Partici
   -- it detached, which no primary does, once it had left every chunk, and noted that: its watchers were told of all rows that went, and it told that its table is empty
   -- before it gave the segment value back
   detaches : (doer : ParticipantView) (taken : SegsView) (told : List Listener) → 0 < doer.party.me → doer.context.standing.chunks ≡ []
-      → IsToldByAddress doer.party.maps.rows doer.party.listeners told
+      → chunk_rows doer.party.maps.rows ≡ [] → IsToldByAddress doer.party.maps.rows doer.party.listeners told
       → Acts count None None [] doer
       (with_standing (record doer.context.standing { attached = false }) (with_party (after_detaching told doer.party) doer)) []
       (takes_segments taken ∷ Notes Emptied ∷ gives_segments (after_leave doer.party.me taken) ∷ [])

@@ -35,7 +35,7 @@ pub record EndsWithNames (workload : Workload) (courses : List Course) (names : 
   pub changes : AreChangesOf workload (did_of courses) names
   pub count : length heaps ≡ MAX_HEAPS
   pub directory : IsDirectoryOf workload names segs.ranges heaps
-  pub zones : AreZonesOf workload names heaps
+  pub zones : AreZonesOf names heaps
   pub claimed : segs.ranges ≡ claims_in workload.pools.items names
   -- what a participant is handed of the names and of the heaps never falls from line to line, and holds what it did before;
   -- names and a heap's state that a line is handed agree, and its call of the heap stands next; and what was awaited stands first

@@ -256,6 +256,14 @@ module _ (who index : ℕ) (low : index < MAX_HEAPS) (end : Slotted) where
       subst (λ (l : List Move). GoesOnWith who (own_in None l) (history_of (slots.value index)) (history_of (end.value index))) is
       (ends_by moves slots replay None (none_then slots free))
 
+  -- and from slots of which it has that one in hand
+  pub goes_held : (moves : List (ℕ × Move)) (slots : Slotted) (own : List Move) (heap : HeapView) → Replays slots moves end
+      → slots.word index ≡ who + 1 → history_of (slots.value index) ≡ heap.history → values_of who moves ≡ own
+      → GoesOnWith who (own_in (Some heap) own) (history_of (slots.value index)) (history_of (end.value index))
+  goes_held moves slots own heap replay held is_heap is =
+      subst (λ (l : List Move). GoesOnWith who (own_in (Some heap) l) (history_of (slots.value index)) (history_of (end.value index))) is
+      (ends_by moves slots replay (Some heap) (held, is_heap))
+
   -- THE SLOT HAS A HEAP ALL ALONG
 
   good_kind : (word : ℕ → ℕ) (slot : ℕ) (kept : Kept) → IsGoodThen word slot kept → index ≡ slot → IsHeapKept kept

@@ -13,3 +13,8 @@ pub mod WayReads
 pub mod StatsHanded
 pub mod StatsAtBoard
 pub mod ThreadsStats
+mod FirstLines
+mod SeatsTold
+mod SeenStates
+mod TakenFronts
+pub mod StatesAtBoard

@@ -1,3 +1,6 @@
+pub mod AgreedAtEnd
+pub mod AwaitedAtBoard
+pub mod CameToBoard
 pub mod ClosedHeaps
 pub mod ClosedTables
 pub mod HeapsAdded
@@ -9,5 +12,9 @@ pub mod MovesAlone
 pub mod MovesHeld
 pub mod MovesWithin
 pub mod NamesAtBoard
-pub mod NamesShown
-pub mod NamesStill
+pub mod NamesChain
+pub mod NamesChanged
+pub mod NamesHeld
+pub mod NamesLeftAtBoard
+pub mod NamesOfWays
+pub mod OwnEntries

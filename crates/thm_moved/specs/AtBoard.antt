@@ -1,11 +1,14 @@
 -- Participants that came home from threads over one board, each told by its own way and its seat's view; and that what they and the board leave is
 -- an end of their workload. The rules "Opening and closing" of docs/BOARD.md and "Together" of docs/RUNS.md.
-use Rattle.std.specs.Prelude.{◌≡◌, ℕ, ◌≤◌, List, [], Contains, length, map, Some, slice_get}
-use Rattle.std.specs.List.{All}
-use Rattle.hp_board.specs.Closing.{HaveMoved, handed_out}
+use Rattle.std.specs.Prelude.{◌≡◌, ℕ, ◌≤◌, List, [], Contains, length, map, take, Some, slice_get}
+use Rattle.hp_board.specs.Closing.{AreLeftNames, HaveMoved, IsNotedUpTo, handed_out}
+use Rattle.hp_board.specs.Lines.{made_by_then}
 use Rattle.hp_board.specs.SeatView.{SeatView}
-use Rattle.hp_board.specs.Views.{made_in}
+use Rattle.hp_board.specs.Views.{BeginsWith, made_in, values_of}
 use Rattle.hp_board.specs.declared.opening.Opening.{Opening}
+use Rattle.hp_board.specs.declared.view.Awaited.{Awaited}
+use Rattle.hp_board.specs.declared.view.LinesDone.{LinesDone}
+use Rattle.hp_board.specs.declared.view.Mine.{Mine}
 use Rattle.hp_chair.specs.Steps.{moves_in, posted_to}
 use Rattle.hp_frame.specs.declared.frame.Frame.{Frame}
 use Rattle.hp_hall.specs.Mail.{Fetches, MailStep}
@@ -13,32 +16,43 @@ use Rattle.hp_heap.specs.History.{HeapView}
 use Rattle.hp_maps.specs.declared.table.Table.{Table}
 use Rattle.hp_script.specs.Limits.{AreDeclared}
 use Rattle.hp_script.specs.declared.answer.Answer.{Answer}
+use Rattle.hp_script.specs.declared.line.Act.TheVariants as act
 use Rattle.hp_script.specs.declared.workload.Workload.{Workload}
 use Rattle.hp_segs.specs.SegsView.{SegsView}
 use Rattle.hp_stats.specs.StatViews.{PenView}
 use Rattle.hp_zone.specs.declared.names.Names.{Names as NamesView}
 use Rattle.hp_proc.specs.Courses.{calls_in}
 use Rattle.hp_proc.specs.Ends.{IsEnd}
-use Rattle.hp_proc.specs.Handed.{names_shown}
-use Rattle.hp_proc.specs.Handing.{shared_of}
 use Rattle.hp_proc.specs.Histories.{entries_for}
 use Rattle.hp_proc.specs.LinesDone.{Course, trace_of}
-use Rattle.hp_proc.specs.SharedNames.{SharedNames, no_changes}
 use Rattle.hp_weave.specs.Weaving.{woven}
 use Rattle.thm_run.specs.EndLaws.{IsGiven}
 use Rattle.thm_run.specs.Seats.{Seat}
-use Rattle.thm_run.specs.SoFar.{first_segs}
+use Rattle.thm_run.specs.SoFar.{first_names, first_segs}
 use Rattle.thm_together.specs.CameHome.{AllCameHome, WentItsWay, courses_in_order}
 use Rattle.thm_moved.specs.ByClose.{EndsAt, IsClosedOver, IsOpeningOf}
 
+-- A participant looked up, in the line of that place that awaited another's first lines, that so many of these were done, or more: it had made by
+-- then what its lines before say, and knows what it had seen.
+pub record HasLooked (who place other lines : ℕ) (courses : List Course) (mine : Mine) : Type 0 where
+  pub awaited : Awaited
+  pub there : Contains mine.awaited (other, awaited)
+  pub enough : lines ≤ awaited.lines
+  pub made : (heap : ℕ) → values_of heap (take awaited.entries mine.made) ≡ entries_for who heap 1 (calls_in (trace_of (take place courses)))
+
 -- A participant came home to its seat at a board: it went its way by these steps, which are what its seat took and gave; by that view its asks were
--- answered, each heap has its calls, and it ends with its table.
+-- answered, each heap has its calls, and it ends with its table. What it told of its lines it told when they were done, and what it awaited it
+-- looked up.
 pub record CameToItsSeat (workload : Workload) (who : ℕ) (first last : Seat) (courses : List Course) (steps : List MailStep) (seat : SeatView)
     (table : Table) : Type 0 where
   pub whose : seat.mine.who ≡ who
   pub went : WentItsWay workload who seat.mine.log seat.mine.heard first last courses steps
   pub moves : seat.mine.moves ≡ moves_in steps
   pub made : (heap : ℕ) → made_in heap seat.mine ≡ entries_for who heap 1 (calls_in (trace_of courses))
+  pub told : (mark : LinesDone) → Contains seat.mine.done mark → (heap : ℕ)
+      → BeginsWith (made_by_then heap mark seat.mine) (entries_for who heap 1 (calls_in (trace_of (take mark.lines courses))))
+  pub looked : (place other lines : ℕ) (course : Course) → slice_get courses place ≡ Some course → course.line.act ≡ act.Await other lines
+      → HasLooked who place other lines courses seat.mine
   pub ends : EndsAt workload who seat last courses table
 
 -- All participants of a workload came home so to a board that opened for it; each frame that participant 0 fetched had been posted to it, sooner or
@@ -51,10 +65,13 @@ pub record AllCameToTheirSeats (workload : Workload) (answers : List Answer) (he
   pub opening : Opening
   pub opens : IsOpeningOf workload opening
   pub segs_are : opening.segs.value ≡ first_segs workload
+  pub names_are : opening.names.value ≡ first_names workload
   pub seats : List SeatView
   pub pens : List PenView
   pub names : NamesView
   pub closed : IsClosedOver opening seats heaps pens segs
+  pub left : AreLeftNames opening seats heaps segs names
+  pub noted : (seat other : SeatView) → Contains seats seat → Contains seats other → IsNotedUpTo heaps seat.mine other.mine
   pub moved : HaveMoved opening seats (handed_out heaps pens segs names)
   -- the participants
   pub first : ℕ → Seat
@@ -83,17 +100,6 @@ abbrev pub HomeAtBoard : Type 0
 HomeAtBoard = (workload : Workload) (answers : List Answer) (heaps : List HeapView) (segs : SegsView) (tables : List Table)
     (all : AllCameToTheirSeats workload answers heaps segs tables)
     → ComeHomeSo workload answers heaps segs tables all.first all.last all.courses
-
--- the names are those with which the board opened
-abbrev pub NamesStayAtBoard : Type 0
-NamesStayAtBoard = (workload : Workload) (answers : List Answer) (heaps : List HeapView) (segs : SegsView) (tables : List Table)
-    (all : AllCameToTheirSeats workload answers heaps segs tables) → all.names ≡ all.opening.names.value
-
--- and whatever names a line of any of them reads, it reads these, and none changes them
-abbrev pub NamesReadAtBoard : Type 0
-NamesReadAtBoard = (workload : Workload) (answers : List Answer) (heaps : List HeapView) (segs : SegsView) (tables : List Table)
-    (all : AllCameToTheirSeats workload answers heaps segs tables) (who : ℕ)
-    → All (λ (shown : SharedNames). shown ≡ shared_of all.opening.names.value) (names_shown no_changes (trace_of (all.courses who)))
 
 -- and that is an end of their workload, of these lines as they were done
 abbrev pub EndAtBoard : Type 0

@@ -158,6 +158,7 @@ event_behind denied event core segs =
 pub handles_behind : {count who : ℕ} {old new : Seat} {taken given : SegsView} → Handles count who old new taken given
     → HasLater taken given
 handles_behind (Handles.looks seat segs) = none_behind segs
+handles_behind (Handles.moves_ranges seat segs ranges moves) = still segs segs (none_behind segs) _ refl refl
 handles_behind (Handles.steps seat segs event core is its knows denied may) = event_behind denied event core segs
 handles_behind (Handles.maps seat segs caught table now core is its caught_up) = event_behind None (SelfMapped caught now) core segs
 handles_behind {count} {who} (Handles.follows seat segs caught table member caught_up) =
@@ -169,7 +170,7 @@ handles_behind {count} {who} (Handles.settles seat segs since now late) =
     (withdraw_behind segs segs (none_behind segs) who seat.party.asked since now) who seat.party.asked
 handles_behind (Handles.cuts seat segs heap addr run) = still segs segs (none_behind segs) _ refl refl
 handles_behind {count} {who} (Handles.attaches seat segs caught after tried) = attach_behind segs segs (none_behind segs) who caught
-handles_behind (Handles.detaches seat segs told secondary heard) = still segs segs (none_behind segs) _ refl refl
+handles_behind (Handles.detaches seat segs told secondary none heard) = still segs segs (none_behind segs) _ refl refl
 
 pub step_is_behind : {count : ℕ} {old new : GlobalState} → Steps count old new → HasLater old.segs new.segs
 step_is_behind (Steps.quietly at who old new there did) = none_behind at.segs

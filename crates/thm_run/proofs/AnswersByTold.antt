@@ -22,7 +22,7 @@ use Rattle.hp_serve.specs.Serving.{gives_segments, takes_segments}
 use Rattle.hp_serve.specs.declared.pages_asked.PagesAsked.{PagesAsked}
 use Rattle.hp_proc.specs.Courses.{numbered_in}
 use Rattle.hp_proc.specs.Doing.{Done}
-use Rattle.hp_proc.specs.Doing.Done.{Asked, Called, CaughtUp, GaveUp, Looked, NamesRead, StatsRead}
+use Rattle.hp_proc.specs.Doing.Done.{Asked, Called, CaughtUp, ChunkMapped, GaveUp, HeapSeen, Looked, NamesChanged, NamesRead, RangePlanned, StatsRead}
 use Rattle.thm_run.proofs.InTurnByHolds.ActsInHolds.{path_rises}
 use Rattle.thm_run.proofs.TracesTold.AnsweredTrace.{all_have}
 use Rattle.thm_run.proofs.InTurnByHolds.HoldsLeft.{find_wider}
@@ -52,9 +52,14 @@ further_quiet : {old new : Seat} → Quietly old new → IsFurther old new
 further_quiet (Quietly.hears seat answered) = record { more = []; is = sym (append-nil seat.trace) }
 further_quiet (Quietly.counts seat sent) = record { more = []; is = sym (append-nil seat.trace) }
 further_quiet (Quietly.calls seat heap call answer none) = record { more = Called heap call answer ∷ []; is = refl }
-further_quiet (Quietly.notes seat elements) = record { more = []; is = sym (append-nil seat.trace) }
+further_quiet (Quietly.notes seat elements chunks) = record { more = []; is = sym (append-nil seat.trace) }
 further_quiet (Quietly.reads_names seat names) = record { more = NamesRead names ∷ []; is = refl }
 further_quiet (Quietly.reads_stats seat heap counted) = record { more = StatsRead heap counted ∷ []; is = refl }
+further_quiet (Quietly.changes_names seat change) = record { more = NamesChanged change ∷ []; is = refl }
+further_quiet (Quietly.sees_heap seat heap history) = record { more = HeapSeen heap history ∷ []; is = refl }
+further_quiet (Quietly.plans_range seat addr len page plan) = record { more = RangePlanned addr len page plan ∷ []; is = refl }
+further_quiet (Quietly.maps_chunk seat chunk maps ended is) = record { more = ChunkMapped chunk ended ∷ []; is = refl }
+further_quiet (Quietly.leaves_chunk seat chunk maps is) = record { more = []; is = sym (append-nil seat.trace) }
 further_quiet (Quietly.ends_line seat deed given) = record { more = []; is = sym (append-nil seat.trace) }
 
 further_mail : {who : ℕ} {old new : Seat} {step : MailStep} → Mails who old new step → IsFurther old new
@@ -67,6 +72,7 @@ further_mail (Mails.speaks seat to frame body action posted nothing says) = furt
 
 further_hold : {count who : ℕ} {old new : Seat} {taken given : SegsView} → Handles count who old new taken given → IsFurther old new
 further_hold (Handles.looks seat segs) = further_same seat
+further_hold (Handles.moves_ranges seat segs ranges moves) = further_same seat
 further_hold (Handles.steps seat segs event core primary its knows denied may) = record { more = []; is = sym (append-nil seat.trace) }
 further_hold (Handles.maps seat segs caught table now core primary its up) = record { more = []; is = sym (append-nil seat.trace) }
 further_hold (Handles.follows seat segs caught table member up) = record { more = []; is = sym (append-nil seat.trace) }
@@ -76,7 +82,7 @@ further_hold (Handles.settles seat segs since now late) = further_same seat
 further_hold (Handles.cuts seat segs heap addr run) = record { more = Called heap _ _ ∷ []; is = refl }
 further_hold (Handles.attaches seat segs caught after tried) =
     record { more = Looked (length segs.log) ∷ CaughtUp (length segs.log) caught ∷ []; is = refl }
-further_hold (Handles.detaches seat segs told secondary heard) = record { more = []; is = sym (append-nil seat.trace) }
+further_hold (Handles.detaches seat segs told secondary none heard) = record { more = []; is = sym (append-nil seat.trace) }
 
 further_path : {count who : ℕ} {old new : Seat} {steps : List MailStep} → SeatTrace count who old new steps → IsFurther old new
 further_path (SeatTrace.ends seat) = further_same seat

@@ -37,6 +37,7 @@ module _ (count : ℕ) (last : Gathering Seat SegsView) where
   own_armed : {who : ℕ} {old new : Seat} {taken given : SegsView} → Handles count who old new taken given → HasArmedGrowth taken → (ask : Ask)
       → armed_ask given who ≡ Some ask → (armed_ask taken who ≡ Some ask) ⊎ (ask.number ≡ new.party.asked)
   own_armed (Handles.looks seat segs) growth ask is = inl is
+  own_armed (Handles.moves_ranges seat segs ranges moves) growth ask is = inl is
   own_armed {who} (Handles.steps seat segs event core zero has knows denied may) growth ask is =
       inl (sym (ap (λ armed. slice_index_or armed who None) (core_logged denied event core segs growth).armed) ∙ is)
   own_armed {who} (Handles.maps seat segs caught table now core zero has up) growth ask is =
@@ -55,7 +56,7 @@ module _ (count : ℕ) (last : Gathering Seat SegsView) where
   own_armed (Handles.cuts seat segs heap addr run) growth ask is = inl is
   own_armed {who} (Handles.attaches seat segs caught after tried) growth ask is =
       inl (sym (ap (λ armed. slice_index_or armed who None) (attaching_leaves who caught segs).armed) ∙ is)
-  own_armed (Handles.detaches seat segs told secondary heard) growth ask is = inl is
+  own_armed (Handles.detaches seat segs told secondary none heard) growth ask is = inl is
 
   -- a seat has come from one that had taken no more numbers
   record CameFrom (at : Gathering Seat SegsView) (who : ℕ) (seat : Seat) : Type 0 where

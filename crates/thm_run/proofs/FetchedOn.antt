@@ -21,9 +21,14 @@ quiet_fetched : {old new : Seat} → Quietly old new → new.fetched ≡ old.fet
 quiet_fetched (Quietly.hears seat answered) = refl
 quiet_fetched (Quietly.counts seat sent) = refl
 quiet_fetched (Quietly.calls seat heap call answer none) = refl
-quiet_fetched (Quietly.notes seat elements) = refl
+quiet_fetched (Quietly.notes seat elements chunks) = refl
 quiet_fetched (Quietly.reads_names seat names) = refl
 quiet_fetched (Quietly.reads_stats seat heap counted) = refl
+quiet_fetched (Quietly.changes_names seat change) = refl
+quiet_fetched (Quietly.sees_heap seat heap history) = refl
+quiet_fetched (Quietly.plans_range seat addr len page plan) = refl
+quiet_fetched (Quietly.maps_chunk seat chunk maps ended is) = refl
+quiet_fetched (Quietly.leaves_chunk seat chunk maps is) = refl
 quiet_fetched (Quietly.ends_line seat deed given) = refl
 
 -- its coordinator is as it was but by the steps of that
@@ -39,9 +44,14 @@ quiet_core : {old new : Seat} → Quietly old new → new.party.core ≡ old.par
 quiet_core (Quietly.hears seat answered) = refl
 quiet_core (Quietly.counts seat sent) = refl
 quiet_core (Quietly.calls seat heap call answer none) = refl
-quiet_core (Quietly.notes seat elements) = refl
+quiet_core (Quietly.notes seat elements chunks) = refl
 quiet_core (Quietly.reads_names seat names) = refl
 quiet_core (Quietly.reads_stats seat heap counted) = refl
+quiet_core (Quietly.changes_names seat change) = refl
+quiet_core (Quietly.sees_heap seat heap history) = refl
+quiet_core (Quietly.plans_range seat addr len page plan) = refl
+quiet_core (Quietly.maps_chunk seat chunk maps ended is) = refl
+quiet_core (Quietly.leaves_chunk seat chunk maps is) = refl
 quiet_core (Quietly.ends_line seat deed given) = refl
 
 pub alone_core : (count who : ℕ) (old new : Seat) → IsDeed count who (Deed.Alone old new) → new.party.core ≡ old.party.core

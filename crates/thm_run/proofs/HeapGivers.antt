@@ -11,19 +11,20 @@ use Rattle.hp_hall.specs.Mail.{Fetches, Gives, MailStep, Notes, Posts, Takes, st
 use Rattle.hp_hall.specs.Values.{history_of}
 use Rattle.hp_hall.specs.declared.kept.Kept.{Kept}
 use Rattle.hp_hall.specs.declared.kept.Kept.TheVariants.{Heap, Names, Segments}
-use Rattle.hp_hall.specs.declared.note.Note.TheVariants.{Published}
+use Rattle.hp_hall.specs.declared.note.Note.TheVariants.{Published, Stored}
 use Rattle.hp_hall.specs.Views.{HeldHeap}
 use Rattle.hp_hall.proofs.OneKind.{by_kind}
 use Rattle.hp_plain.proofs.Slotted.{slice_get-set_other, slice_get-set_same}
 use Rattle.thm_run.proofs.PathSteps.Walk.{steps_elsewhere, steps_here}
 
--- a step takes neither a heap nor the names, gives none back, and publishes no statistics
+-- a step takes neither a heap nor the names, gives none back, publishes no statistics, and tells of no lines that are done
 abbrev pub IsNoGive : MailStep → Type 0
 IsNoGive (Takes number (Heap heap pen)) = ⊥
 IsNoGive (Takes number (Names names)) = ⊥
 IsNoGive (Gives number (Heap heap pen)) = ⊥
 IsNoGive (Gives number (Names names)) = ⊥
 IsNoGive (Notes (Published number pair)) = ⊥
+IsNoGive (Notes (Stored lines)) = ⊥
 IsNoGive _ = ⊤
 
 -- none of these steps does

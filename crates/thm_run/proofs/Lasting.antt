@@ -25,9 +25,14 @@ quietly_on : {old new : Seat} → Quietly old new → GoesOn old new
 quietly_on (Quietly.hears seat answered) = still seat.trace
 quietly_on (Quietly.counts seat sent) = still seat.trace
 quietly_on (Quietly.calls seat heap call answer none) = with_more seat.trace (Done.Called heap call answer ∷ [])
-quietly_on (Quietly.notes seat standing) = still seat.trace
+quietly_on (Quietly.notes seat elements chunks) = still seat.trace
 quietly_on (Quietly.reads_names seat names) = with_more seat.trace (Done.NamesRead names ∷ [])
 quietly_on (Quietly.reads_stats seat heap counted) = with_more seat.trace (Done.StatsRead heap counted ∷ [])
+quietly_on (Quietly.changes_names seat change) = with_more seat.trace (Done.NamesChanged change ∷ [])
+quietly_on (Quietly.sees_heap seat heap history) = with_more seat.trace (Done.HeapSeen heap history ∷ [])
+quietly_on (Quietly.plans_range seat addr len page plan) = with_more seat.trace (Done.RangePlanned addr len page plan ∷ [])
+quietly_on (Quietly.maps_chunk seat chunk maps ended is) = with_more seat.trace (Done.ChunkMapped chunk ended ∷ [])
+quietly_on (Quietly.leaves_chunk seat chunk maps is) = still seat.trace
 quietly_on (Quietly.ends_line seat deed given) = still seat.trace
 
 mails_on : {who : ℕ} {old new : Seat} {step : MailStep} → Mails who old new step → GoesOn old new
@@ -40,6 +45,7 @@ mails_on (Mails.speaks seat to frame body action posted nothing says) = still se
 
 handles_on : {count who : ℕ} {old new : Seat} {taken given : SegsView} → Handles count who old new taken given → GoesOn old new
 handles_on (Handles.looks seat segs) = still seat.trace
+handles_on (Handles.moves_ranges seat segs ranges moves) = still seat.trace
 handles_on (Handles.steps seat segs event core is its knows denied may) = still seat.trace
 handles_on (Handles.maps seat segs caught table now core is its caught_up) = still seat.trace
 handles_on (Handles.follows seat segs caught table member caught_up) = still seat.trace
@@ -50,7 +56,7 @@ handles_on (Handles.cuts seat segs heap addr run) =
     with_more seat.trace (Done.Called heap (call.Cut addr) (gives.Pages run) ∷ [])
 handles_on (Handles.attaches seat segs caught after tried) =
     with_more seat.trace (Done.Looked (length segs.log) ∷ Done.CaughtUp (length segs.log) caught ∷ [])
-handles_on (Handles.detaches seat segs told secondary heard) = still seat.trace
+handles_on (Handles.detaches seat segs told secondary none heard) = still seat.trace
 
 module _ (seats : List Seat) (who : ℕ) (old new : Seat) (there : slice_get seats who ≡ Some old) where
   seat_on : GoesOn old new → AreLater (numbers_of seats) (numbers_of (slice_set seats who new))

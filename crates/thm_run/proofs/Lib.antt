@@ -1,6 +1,7 @@
 pub mod InTurnByHolds
 pub mod TracesTold
 pub mod AnswersByTold
+pub mod AwaitedInOrder
 pub mod PathSteps
 pub mod LineSteps
 pub mod GrownHeaps
@@ -24,11 +25,15 @@ mod Hearing
 pub mod JudgedGrowths
 pub mod Lasting
 pub mod Leaving
+pub mod BesideChunks
 pub mod LinesOnward
+pub mod LinesTold
 pub mod SeenAndShown
 pub mod Made
 pub mod Members
-pub mod NamesStay
+pub mod MarksAlong
+pub mod NamesAlong
+pub mod SlotAlong
 pub mod Picked
 pub mod Registrations
 pub mod Rising

@@ -23,9 +23,14 @@ pub quietly_lines : {old new : Seat} → Quietly old new → HasMoreLines old ne
 quietly_lines (Quietly.hears seat answered) = same seat _ refl
 quietly_lines (Quietly.counts seat sent) = same seat _ refl
 quietly_lines (Quietly.calls seat heap call answer none) = same seat _ refl
-quietly_lines (Quietly.notes seat elements) = same seat _ refl
+quietly_lines (Quietly.notes seat elements chunks) = same seat _ refl
 quietly_lines (Quietly.reads_names seat names) = same seat _ refl
 quietly_lines (Quietly.reads_stats seat heap counted) = same seat _ refl
+quietly_lines (Quietly.changes_names seat change) = same seat _ refl
+quietly_lines (Quietly.sees_heap seat heap history) = same seat _ refl
+quietly_lines (Quietly.plans_range seat addr len page plan) = same seat _ refl
+quietly_lines (Quietly.maps_chunk seat chunk maps ended is) = same seat _ refl
+quietly_lines (Quietly.leaves_chunk seat chunk maps is) = same seat _ refl
 quietly_lines (Quietly.ends_line seat deed given) = record { more = line_ended deed given seat ∷ []; is = refl }
 
 pub mails_lines : {who : ℕ} {old new : Seat} {step : MailStep} → Mails who old new step → HasMoreLines old new
@@ -38,6 +43,7 @@ mails_lines (Mails.speaks seat to frame body action posted nothing says) = same 
 
 pub handles_lines : {count who : ℕ} {old new : Seat} {taken given : SegsView} → Handles count who old new taken given → HasMoreLines old new
 handles_lines (Handles.looks seat segs) = same seat seat refl
+handles_lines (Handles.moves_ranges seat segs ranges moves) = same seat seat refl
 handles_lines (Handles.steps seat segs event core is its knows denied may) = same seat _ refl
 handles_lines (Handles.maps seat segs caught table now core is its caught_up) = same seat _ refl
 handles_lines (Handles.follows seat segs caught table member caught_up) = same seat _ refl
@@ -46,7 +52,7 @@ handles_lines (Handles.claims seat segs) = same seat seat refl
 handles_lines (Handles.settles seat segs since now late) = same seat seat refl
 handles_lines (Handles.cuts seat segs heap addr run) = same seat _ refl
 handles_lines (Handles.attaches seat segs caught after tried) = same seat _ refl
-handles_lines (Handles.detaches seat segs told secondary heard) = same seat _ refl
+handles_lines (Handles.detaches seat segs told secondary none heard) = same seat _ refl
 
 -- judges may deny what the lines that have ended register, of every participant
 abbrev pub MayDenyByLines : Denials → GlobalState → Type 0

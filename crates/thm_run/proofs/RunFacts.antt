@@ -15,3 +15,4 @@ pub mod RunChanges
 pub mod SoFarFacts
 pub mod SoFarOn
 pub mod StepChanges
+pub mod Unmarked

@@ -29,9 +29,14 @@ quietly_set : {old new : Seat} → Quietly old new → IsSetAs old new
 quietly_set (Quietly.hears seat answered) = record { me = refl; deadline = refl; may_fail = refl }
 quietly_set (Quietly.counts seat sent) = record { me = refl; deadline = refl; may_fail = refl }
 quietly_set (Quietly.calls seat heap call answer none) = record { me = refl; deadline = refl; may_fail = refl }
-quietly_set (Quietly.notes seat standing) = record { me = refl; deadline = refl; may_fail = refl }
+quietly_set (Quietly.notes seat elements chunks) = record { me = refl; deadline = refl; may_fail = refl }
 quietly_set (Quietly.reads_names seat names) = record { me = refl; deadline = refl; may_fail = refl }
 quietly_set (Quietly.reads_stats seat heap counted) = record { me = refl; deadline = refl; may_fail = refl }
+quietly_set (Quietly.changes_names seat change) = record { me = refl; deadline = refl; may_fail = refl }
+quietly_set (Quietly.sees_heap seat heap history) = record { me = refl; deadline = refl; may_fail = refl }
+quietly_set (Quietly.plans_range seat addr len page plan) = record { me = refl; deadline = refl; may_fail = refl }
+quietly_set (Quietly.maps_chunk seat chunk maps ended is) = record { me = refl; deadline = refl; may_fail = is.others.may_fail }
+quietly_set (Quietly.leaves_chunk seat chunk maps is) = record { me = refl; deadline = refl; may_fail = is.others.may_fail }
 quietly_set (Quietly.ends_line seat deed given) = record { me = refl; deadline = refl; may_fail = refl }
 
 mails_set : {who : ℕ} {old new : Seat} {step : MailStep} → Mails who old new step → IsSetAs old new
@@ -49,6 +54,7 @@ left_may_fail (caught.Elsewhere row call got) maps = refl
 
 handles_set : {count who : ℕ} {old new : Seat} {taken given : SegsView} → Handles count who old new taken given → IsSetAs old new
 handles_set (Handles.looks seat segs) = record { me = refl; deadline = refl; may_fail = refl }
+handles_set (Handles.moves_ranges seat segs ranges moves) = record { me = refl; deadline = refl; may_fail = refl }
 handles_set (Handles.steps seat segs event core is its knows denied may) = record { me = refl; deadline = refl; may_fail = refl }
 handles_set (Handles.maps seat segs caught table now core is its caught_up) =
     record { me = refl; deadline = refl; may_fail = caught_up.stays }
@@ -63,7 +69,7 @@ handles_set (Handles.attaches seat segs caught after tried) = record {
   may_fail =
       ap (λ party. party.maps.may_fail) tried.after_is ∙ (left_may_fail caught tried.maps ∙ tried.caught_up.stays);
 }
-handles_set (Handles.detaches seat segs told secondary heard) = record { me = refl; deadline = refl; may_fail = refl }
+handles_set (Handles.detaches seat segs told secondary none heard) = record { me = refl; deadline = refl; may_fail = refl }
 
 -- a participant keeps its settings on its way
 pub path_set : {count who : ℕ} {old new : Seat} {steps : List MailStep} → SeatTrace count who old new steps → IsSetAs old new

@@ -28,10 +28,10 @@ use Rattle.thm_run.proofs.StatsFronts.{all_read, at, left, lines_rise, read_ther
 use Rattle.thm_run.specs.Handing.{AreOfLinesBefore, StatisticsEndSo}
 
 -- an entry of a participant has a number above that
-abbrev IsAbove : ℕ → ℕ → Entry → Type 0
+abbrev pub IsAbove : ℕ → ℕ → Entry → Type 0
 IsAbove who calls entry = entry.caller.participant ≡ who → calls < entry.caller.number
 
-abbrev AreAbove : ℕ → ℕ → List Entry → Type 0
+abbrev pub AreAbove : ℕ → ℕ → List Entry → Type 0
 AreAbove who calls entries = AllByRecursion (IsAbove who calls) entries
 
 above_both : (who calls : ℕ) (one other : List Entry) → AreAbove who calls one → AreAbove who calls other → AreAbove who calls (one ++ other)
@@ -257,7 +257,7 @@ module _ (who : ℕ) (done : Done) where
 -- WHAT IS HANDED
 
 -- an entry whose number is not above stands in the front
-stands_before : (who calls place : ℕ) (front more : List Entry) (entry : Entry) → AreAbove who calls more
+pub stands_before : (who calls place : ℕ) (front more : List Entry) (entry : Entry) → AreAbove who calls more
     → slice_get (front ++ more) place ≡ Some entry → entry.caller.participant ≡ who → entry.caller.number ≤ calls → place < length front
 stands_before who calls zero [] [] entry above there its few = cc
 stands_before who calls (suc place) [] [] entry above there its few = cc

@@ -1,8 +1,10 @@
 pub mod AnsweredTrace
 pub mod AsksSettled
 pub mod Numbers
+pub mod OrderlyExternal
 pub mod OrderlyLines
 pub mod OrderlyTraces
+pub mod OrderlyZones
 pub mod Posts
 pub mod ToldAbove
 pub mod ToldByPosts

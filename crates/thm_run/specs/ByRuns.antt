@@ -15,7 +15,7 @@ use Rattle.hp_proc.specs.Doing.{Done}
 use Rattle.hp_proc.specs.Ends.{HaveGoneBack, KeepsCalls}
 use Rattle.hp_proc.specs.Histories.{entries_for}
 use Rattle.hp_proc.specs.Outcomes.{AreAskedFor, IsRefusedIn}
-use Rattle.hp_proc.specs.Seen.{AreRefusals}
+use Rattle.hp_proc.specs.Handed.{AreOwnFailures}
 use Rattle.hp_weave.specs.Deeds.{Gathering}
 use Rattle.hp_weave.specs.Holds.{Hold}
 use Rattle.thm_run.specs.Apart.{CameTogether}
@@ -64,16 +64,15 @@ pub record CameFromFirst (workload : Workload) (did : ℕ → List Done) (first 
 abbrev pub AreOfHeaps : (ℕ → List Done) → List HeapView → Type 0
 AreOfHeaps did heaps = (who index : ℕ) → length heaps ≤ index → entries_for who index 1 (calls_in (did who)) ≡ []
 
--- what an end has by that: the segment value is sound, of the pools of the workload and without external memory; where no growth is open,
--- each was asked for; the workload shows its part of each refusal's cause; where a mapping was refused, it was one of a row of the log;
+-- what an end has by that: the segment value is sound, of the pools of the workload; where no growth is open,
+-- each was asked for; the workload shows its part of each refusal's cause; where a mapping failed, it was one of a row of the log or of a chunk;
 -- what was cut from heaps that keep all calls has gone back or is Retiring; and nobody but participants is in the roster
 pub record HasByRun (workload : Workload) (did : ℕ → List Done) (segs : SegsView) : Type 0 where
   pub segs_sound : segments.IsSound segs
   pub pools : segs.pools ≡ workload.pools.items
-  pub external : segs.ranges ≡ []
   pub asked_for : segs.growth ≡ None → AreAskedFor segs
   pub causes : All (IsRefusedIn workload) segs.asks
-  pub refusals : (who : ℕ) → AreRefusals segs.log (did who)
+  pub failed : (who : ℕ) → AreOwnFailures segs.log (did who)
   pub gone : (heaps : List HeapView) → KeepsCalls did heaps → AreOfHeaps did heaps → HaveGoneBack heaps segs
   pub nobody_else : (who : ℕ) → workload.participants ≤ who → is_member segs.roster who ≡ false
 

@@ -1,6 +1,6 @@
 -- What is true of every run of a workload in one thread: how it opens, goes on from line to line, and ends. The rule "Together" of
 -- docs/RUNS.md.
-use Rattle.std.specs.Prelude.{◌≡◌, ◌+◌, ◌<◌, ◌≤◌, ℕ, List, [], ◌∷◌, ◌++◌, length, map, true, Option, Some, slice_get, slice_index}
+use Rattle.std.specs.Prelude.{◌≡◌, ◌+◌, ◌<◌, ◌≤◌, ℕ, List, [], ◌∷◌, ◌++◌, length, map, true, false, Option, Some, slice_get, slice_index, ⊤}
 use Rattle.std.specs.Int.{bit_at}
 use Rattle.std.specs.List.{Contains}
 use Rattle.hp_base.specs.Mapping.{FailingCall, FailsSo, may_fail_at}
@@ -18,8 +18,10 @@ use Rattle.hp_hall.specs.declared.note.Note.TheVariants.{LoadedDone, Stored}
 use Rattle.hp_plain.specs.HallView.{HallView, HasDone, IsHall, heard_in, lines_at, own_at, part_in, seen_in, segs_in, slot_at}
 use Rattle.hp_maps.specs.MapsView.{MapsView}
 use Rattle.hp_maps.specs.declared.table.Table.{Table}
+use Rattle.hp_script.specs.Facts.{AwaitEarlier}
 use Rattle.hp_script.specs.declared.answer.Answer.{Answer}
 use Rattle.hp_script.specs.declared.answer.Answer.TheVariants as answer
+use Rattle.hp_script.specs.declared.line.Act.{Act}
 use Rattle.hp_script.specs.declared.line.Act.TheVariants as act
 use Rattle.hp_script.specs.declared.line.Line.{Line}
 use Rattle.hp_script.specs.declared.workload.Workload.{Workload}
@@ -39,6 +41,7 @@ use Rattle.hp_proc.specs.OneThread.{AreHandedInOrder}
 use Rattle.hp_proc.specs.RunEnds.{EndsWithNames}
 use Rattle.hp_proc.specs.LinesDone.{Course}
 use Rattle.hp_serve.specs.Party.{IsSameParty, Party, opening_party}
+use Rattle.hp_proc.specs.OwnChunks.{AreMarkedAs}
 use Rattle.hp_proc.specs.ParticipantView.{ParticipantView}
 use Rattle.hp_proc.specs.Progress.{DoesLine, MayComeAndGo, MayDo, moment_of}
 use Rattle.hp_serve.specs.Tied.{IsTied}
@@ -65,13 +68,14 @@ pub record IsFirstParty (workload : Workload) (who : ℕ) (party : Party) : Type
   pub answers : maps.answers ≡ []
   pub room : MAX_SEGMENTS ≤ maps.capacity
 
--- what the lines of a workload say of its participants and its pools
+-- what the lines of a workload say of its participants and its pools; and who awaits lines stands after them
 pub record IsGiven (workload : Workload) : Type 0 where
   pub few : workload.participants ≤ MAX_PARTICIPANTS
   pub primary : 0 < workload.participants
   pub present : bit_at workload.absent 0 ≡ 0
   pub pools : ArePoolLines workload.pools.items
   pub deadline : workload.deadline ≤ MAX_DEADLINE
+  pub awaits : AwaitEarlier workload.participants workload.lines.items
 
 -- they have done no line yet
 abbrev pub OpensSoFar : Type 0
@@ -81,10 +85,11 @@ OpensSoFar = (workload : Workload) (held : List HeldHeap) (parties : List Party)
     → SoFar workload [] parties (first_hall workload held)
 
 -- a participant served while another one did its line, or after the last line, by a judge that denies by what its lines left
-pub record ServesBeside (count who : ℕ) (left : Standing) (old new : HallView) (party after : Party) : Type 0 where
-  pub served : HasServed (denials_of left) count who old new party after
+pub record ServesBeside (count who : ℕ) (standing : Standing) (old new : HallView) (party after : Party) : Type 0 where
+  pub served : HasServed (denials_of standing) count who old new party after
   pub same : IsSameParty party after
   pub tied : IsTied (seen_in new) (own_at new who) (λ heap. (part_in new who heap).marked) after.joined after.maps
+  pub left : after.joined ≡ false → (heap : ℕ) → (part_in new who heap).marked ≡ []
 
 -- all but those that are apart served, and did nothing else; that is left by their lines
 abbrev pub OthersServe : (ℕ → Type 0) → ℕ → (ℕ → Standing) → HallView → HallView → List Party → List Party → Type 0
@@ -95,7 +100,8 @@ OthersServe apart count left old new parties later = (who : ℕ) (party after : 
 abbrev pub tells_one_more : ℕ → ℕ → List MailStep
 tells_one_more who lines = Notes (LoadedDone who lines) ∷ (Notes (Stored (lines + 1)) ∷ [])
 
--- a participant does its line, and tells that one of its lines more is done then
+-- a participant does its line, and tells that one of its lines more is done then; its marks are on the chunks that it has noted,
+-- and on none while it is out
 pub record DoesItsLine (workload : Workload) (old new : HallView) (line : Line) (answer : Answer) (doer after : ParticipantView) : Type 0
   where
     pub does : DoesLine workload.participants
@@ -105,6 +111,8 @@ pub record DoesItsLine (workload : Workload) (old new : HallView) (line : Line) 
     pub ready : MayDo (moment_of after (part_in new line.participant) (seen_in new) (heard_in new))
     pub tied : IsTied (seen_in new) (own_at new line.participant) (λ heap. (part_in new line.participant heap).marked) after.party.joined
         after.party.maps
+    pub left : after.party.joined ≡ false → (heap : ℕ) → (part_in new line.participant heap).marked ≡ []
+    pub chunks : (heap : ℕ) → AreMarkedAs heap (part_in new line.participant heap).marked after.context.standing.chunks
     pub same : IsSameParty doer.party after.party
     pub told : lines_at new line.participant ≡ lines_at old line.participant + 1
 
@@ -215,20 +223,26 @@ FailsOnce = (workload : Workload) (courses : List Course) (parties : List Party)
     → segs_in (slot_at hall MAX_HEAPS) ≡ Some segs → slice_get segs.asks place ≡ Some entry → slice_get segs.asks other ≡ Some second
     → IsFailedMapping participant call entry → IsFailedMapping participant call second → place ≡ other
 
--- a line that attaches was refused at that call of its participant's mapper
-pub record IsRefusedAttach (participant call : ℕ) (course : Course) : Type 0 where
+-- an act maps pages, of the log or of a chunk
+abbrev pub MapsPages : Act → Type 0
+MapsPages act.Attach = ⊤
+MapsPages (act.Map heap addr len) = ⊤
+MapsPages _ = ⊥
+
+-- a line that attaches its participant, or a chunk, was refused at that call of its participant's mapper
+pub record IsRefusedMapping (participant call : ℕ) (course : Course) : Type 0 where
   pub who : course.line.participant ≡ participant
-  pub act : course.line.act ≡ act.Attach
+  pub maps : MapsPages course.line.act
   pub answer : course.answer ≡ answer.Refused call
 
--- an attach was refused at a call at which its participant's mapper may fail, and two of one call are one line
+-- such a line was refused at a call at which its participant's mapper may fail, and two of one call are one line
 abbrev pub RefusesByReason : Type 0
 RefusesByReason = (workload : Workload) (courses : List Course) (parties : List Party) (hall : HallView) (course : Course)
     (participant call : ℕ) → IsGiven workload → SoFar workload courses parties hall → Contains courses course
-    → IsRefusedAttach participant call course → MayHaveFailed parties participant call
+    → IsRefusedMapping participant call course → MayHaveFailed parties participant call
 
 abbrev pub RefusesOnce : Type 0
 RefusesOnce = (workload : Workload) (courses : List Course) (parties : List Party) (hall : HallView) (place other : ℕ)
     (course second : Course) (participant call : ℕ) → IsGiven workload → SoFar workload courses parties hall
-    → slice_get courses place ≡ Some course → slice_get courses other ≡ Some second → IsRefusedAttach participant call course
-    → IsRefusedAttach participant call second → place ≡ other
+    → slice_get courses place ≡ Some course → slice_get courses other ≡ Some second → IsRefusedMapping participant call course
+    → IsRefusedMapping participant call second → place ≡ other

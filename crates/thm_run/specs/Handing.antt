@@ -39,7 +39,7 @@ pub record WatchersHaveGrants (workload : Workload) (courses : List Course) (seg
     (watchers : List (List Listener)) : Type 0 where
   pub each : (who : ℕ) (table : Table) (listeners : List Listener) → slice_get tables who ≡ Some table
       → slice_get watchers who ≡ Some listeners
-      → All (IsRegisteredWithGrants who (opening_left workload who) segs (courses_of who courses) table) listeners
+      → All (IsRegisteredWithGrants who (opening_standing workload who) segs (courses_of who courses) table) listeners
 
 -- the statistics that participants were answered are each those of a heap after a front of its history, which holds the calls that the
 -- participant had made by then; and for one participant these fronts never grow shorter

@@ -1,8 +1,9 @@
 -- What a participant's own holds say of its lines, whoever holds the values in between: what it sees of the log never falls, and where one
 -- of its lines was answered that there is no memory, nothing was granted to that line. The rule "Together" of docs/RUNS.md.
-use Rattle.std.specs.Prelude.{◌≡◌, ◌≢◌, ◌⊎◌, ℕ, ◌+◌, ◌<◌, ◌≤◌, ⊤, Bool, true, List, [], ◌∷◌, ◌++◌, length, Contains, Option, Some, None, IfSome}
+use Rattle.std.specs.Prelude.{◌≡◌, ◌≢◌, ◌⊎◌, ℕ, ◌+◌, ◌<◌, ◌≤◌, ⊤, Bool, true, List, [], ◌∷◌, ◌++◌, length, Contains, Option, Some, None, IfSome, Result}
 use Rattle.std.specs.List.{All}
 use Rattle.hp_base.specs.declared.caught.Caught.{Caught}
+use Rattle.hp_base.specs.declared.chunk.Chunk.{Chunk}
 use Rattle.hp_base.specs.declared.row.Run.{Run}
 use Rattle.hp_hall.specs.Asks.{AnswersOfArmed}
 use Rattle.hp_hall.specs.Mail.{MailStep}
@@ -19,15 +20,16 @@ use Rattle.hp_segs.specs.SegsView.{SegsView, closed_number}
 use Rattle.hp_segs.specs.SettledAsks.{IsSettled}
 use Rattle.hp_segs.specs.Sound as segments
 use Rattle.hp_segs.specs.declared.ask.Ask.{Ask}
+use Rattle.hp_segs.specs.declared.fault.RangeFault.{RangeFault}
 use Rattle.hp_segs.specs.declared.outcome.AskLog.{AskLog}
 use Rattle.hp_serve.specs.Asking.{ask_of}
 use Rattle.hp_serve.specs.declared.pages_asked.PagesAsked.{PagesAsked}
 use Rattle.hp_proc.specs.Courses.{calls_in}
 use Rattle.hp_proc.specs.Doing.{Counted, Done}
-use Rattle.hp_proc.specs.Doing.Done.{Asked, Called, CaughtUp, GaveUp, Looked, NamesRead, StatsRead}
+use Rattle.hp_proc.specs.Doing.Done.{Asked, Called, CaughtUp, ChunkMapped, GaveUp, HeapSeen, Looked, NamesChanged, NamesRead, RangePlanned, StatsRead}
 use Rattle.hp_proc.specs.Histories.{entries_for}
 use Rattle.hp_proc.specs.LinesDone.{AreDone, Course, IsNoneUngranted, courses_of, opening_standing, trace_of}
-use Rattle.hp_proc.specs.SharedNames.{SharedNames}
+use Rattle.hp_proc.specs.SharedNames.{NamesChange, SharedNames}
 use Rattle.hp_proc.specs.Outcomes.{AreAnsweredSo, AreAsksInTurn, IsAnsweredSo, IsOfAnAskOfATrace}
 use Rattle.hp_proc.specs.Seen.{AreSeen, seen_in}
 use Rattle.hp_weave.specs.Deeds.{Gathering}
@@ -96,6 +98,14 @@ pub data DoesInHolds (who : ℕ) : ℕ → List Done → List (Hold SegsView) �
       → DoesInHolds who number (NamesRead names ∷ trace) holds
   reads_stats : (number heap : ℕ) (counted : Counted) (trace : List Done) (holds : List (Hold SegsView))
       → DoesInHolds who number trace holds → DoesInHolds who number (StatsRead heap counted ∷ trace) holds
+  changes_names : (number : ℕ) (change : NamesChange) (trace : List Done) (holds : List (Hold SegsView)) → DoesInHolds who number trace holds
+      → DoesInHolds who number (NamesChanged change ∷ trace) holds
+  sees_heap : (number heap : ℕ) (history : List Entry) (trace : List Done) (holds : List (Hold SegsView))
+      → DoesInHolds who number trace holds → DoesInHolds who number (HeapSeen heap history ∷ trace) holds
+  plans_range : (number addr len page : ℕ) (plan : Result ℕ RangeFault) (trace : List Done) (holds : List (Hold SegsView))
+      → DoesInHolds who number trace holds → DoesInHolds who number (RangePlanned addr len page plan ∷ trace) holds
+  maps_chunk : (number : ℕ) (chunk : Chunk) (ended : Caught) (trace : List Done) (holds : List (Hold SegsView))
+      → DoesInHolds who number trace holds → DoesInHolds who number (ChunkMapped chunk ended ∷ trace) holds
   catches_up : (number to : ℕ) (caught : Caught) (trace : List Done) (holds : List (Hold SegsView)) → DoesInHolds who number trace holds
       → DoesInHolds who number (CaughtUp to caught ∷ trace) holds
 

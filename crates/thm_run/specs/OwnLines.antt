@@ -15,10 +15,12 @@ use Rattle.hp_segs.specs.SettledAsks.{IsSettled}
 use Rattle.hp_segs.specs.Sound as segments
 use Rattle.hp_segs.specs.declared.ask.Ask.{Ask}
 use Rattle.hp_proc.specs.Acting.{Acts, AreAsked}
+use Rattle.hp_proc.specs.Awaiting.{HasAwaited}
 use Rattle.hp_proc.specs.Courses.{after_line, calls_in, numbered_in}
 use Rattle.hp_proc.specs.Denying.{denials_of}
 use Rattle.hp_proc.specs.Histories.{entries_for}
 use Rattle.hp_proc.specs.LinesDone.{Course, trace_of}
+use Rattle.hp_proc.specs.NamesOfLines.{NamesOfLine}
 use Rattle.hp_proc.specs.Outcomes.{AreAnsweredSo}
 use Rattle.hp_proc.specs.ParticipantView.{ParticipantView, after_registering}
 use Rattle.hp_proc.specs.Progress.{AreOnce}
@@ -44,6 +46,8 @@ pub record IsLineOf (count who : ℕ) (old new : Seat) (course : Course) (steps 
   pub held : List ℕ
   pub once : AreOnce held
   pub acts : Acts count None None held doer mid course.trace steps
+  pub names : NamesOfLine course.trace steps
+  pub awaited : HasAwaited course.line.act steps
   pub path : SeatTrace count who old new steps
   pub trace : new.trace ≡ old.trace ++ course.trace
   pub lines : new.lines
@@ -79,8 +83,8 @@ pub data WentByLines (count who : ℕ) : Seat → Seat → List Course → List 
 -- then what lines leave, as `DoesLine` of hp_proc says, that is a line of it, and it sits there with what that left
 abbrev pub LineInSeat : Type 0
 LineInSeat = (count : ℕ) (held : List ℕ) (doer mid : ParticipantView) (course : Course) (steps : List MailStep) (seat : Seat)
-    → Acts count None None held doer mid course.trace steps → AreOnce held → doer.party.deadline ≤ MAX_DEADLINE
-    → seat.party ≡ doer.party → seat.standing ≡ doer.context.standing
+    → Acts count None None held doer mid course.trace steps → AreOnce held → NamesOfLine course.trace steps
+    → HasAwaited course.line.act steps → doer.party.deadline ≤ MAX_DEADLINE → seat.party ≡ doer.party → seat.standing ≡ doer.context.standing
     → (after_registering course.line.act course.answer mid).context.standing
     ≡ after_line course.line course.answer course.trace doer.context.standing
     → (next : Seat) × (next.party ≡ (after_registering course.line.act course.answer mid).party)

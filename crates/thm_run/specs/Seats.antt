@@ -1,7 +1,8 @@
 -- What a participant does while others do their part, in the steps between which others may act. The rule "Together" of
 -- docs/RUNS.md.
-use Rattle.std.specs.Prelude.{◌≡◌, ◌≢◌, ℕ, ◌+◌, ◌*◌, ◌≤◌, ⊤, Bool, true, false, List, [], ◌∷◌, ◌++◌, length, map, Contains, Option, Some, None}
+use Rattle.std.specs.Prelude.{◌≡◌, ◌≢◌, ℕ, ◌+◌, ◌*◌, ◌≤◌, ⊤, Bool, true, false, List, [], ◌∷◌, ◌++◌, length, map, Contains, Option, Some, None, Result, Ok}
 use Rattle.hp_base.specs.declared.caught.Caught.{Caught}
+use Rattle.hp_base.specs.declared.chunk.Chunk.{Chunk}
 use Rattle.hp_base.specs.declared.plan.Action.{Action}
 use Rattle.hp_base.specs.declared.row.Run.{Run}
 use Rattle.hp_base.specs.Telling.{Listener}
@@ -16,16 +17,20 @@ use Rattle.hp_hall.specs.Mail.{Fetches, Gives, MailStep, Notes, Posts, Takes}
 use Rattle.hp_hall.specs.declared.kept.Kept.TheVariants.{Heap, Names}
 use Rattle.hp_hall.specs.declared.note.Note.{Note}
 use Rattle.hp_mail.specs.declared.posted.Posted.{Posted}
+use Rattle.hp_heap.specs.declared.entry.Entry.{Entry}
 use Rattle.hp_heap.specs.declared.entry.HeapAnswer.{HeapAnswer}
 use Rattle.hp_heap.specs.declared.entry.HeapAnswer.TheVariants as gives
 use Rattle.hp_heap.specs.declared.entry.HeapCall.{HeapCall}
 use Rattle.hp_heap.specs.declared.entry.HeapCall.TheVariants as call
-use Rattle.hp_maps.specs.MapsView.{MapsView}
+use Rattle.hp_maps.specs.MapsView.{MapsView, chunk_rows}
 use Rattle.hp_maps.specs.Events.{IsToldByAddress}
 use Rattle.hp_segs.specs.LaterSteps.{after_arm, after_leave, after_withdraw}
+use Rattle.hp_segs.specs.Ranges.{after_claim_range, after_release_range, range_plan}
 use Rattle.hp_segs.specs.SegsView.{SegsView, is_member}
 use Rattle.hp_segs.specs.Steps.{after_claim, after_retire}
 use Rattle.hp_segs.specs.declared.ask.Ask.{Ask}
+use Rattle.hp_segs.specs.declared.external_range.ExternalRange.{ExternalRange}
+use Rattle.hp_segs.specs.declared.fault.RangeFault.{RangeFault}
 use Rattle.hp_serve.specs.Asking.{alloc_body, free_body, next_number}
 use Rattle.hp_serve.specs.Attaching.{Attaches, after_attaching, after_detaching}
 use Rattle.hp_proc.specs.Courses.{Standing, numbered_in, standing_tried}
@@ -33,16 +38,18 @@ use Rattle.hp_serve.specs.Coordinating.{IsAskIn, MayDeny, stepping, with_core}
 use Rattle.hp_proc.specs.Denying.{denials_of}
 use Rattle.hp_proc.specs.ParticipantView.{watched_after}
 use Rattle.hp_proc.specs.Registering.{validators_after, watchers_after}
-use Rattle.hp_proc.specs.SharedNames.{SharedNames}
+use Rattle.hp_proc.specs.MappedChunks.{LeavesChunk, MapsChunk}
+use Rattle.hp_proc.specs.SharedNames.{NamesChange, SharedNames}
 use Rattle.hp_script.specs.declared.line.Act.{Act}
 use Rattle.hp_script.specs.declared.answer.Answer.{Answer as LineAnswer}
 use Rattle.hp_proc.specs.Doing.{Counted, Done}
-use Rattle.hp_proc.specs.Doing.Done.{Asked, Called, CaughtUp, GaveUp, Looked, NamesRead, StatsRead}
+use Rattle.hp_proc.specs.Doing.Done.{Asked, Called, CaughtUp, ChunkMapped, GaveUp, HeapSeen, Looked, NamesChanged, NamesRead, RangePlanned, StatsRead}
 use Rattle.hp_serve.specs.Frames.{Says}
 use Rattle.hp_heap.specs.HistoryLaws.{run_cut}
 use Rattle.hp_serve.specs.Asking.{ask_of}
-use Rattle.hp_serve.specs.Party.{Party}
+use Rattle.hp_serve.specs.Party.{Party, with_maps}
 use Rattle.hp_serve.specs.Serving.{CatchesUp, after_catching_up, gives_segments, takes_segments}
+use Rattle.hp_proc.specs.declared.own_chunk.OwnChunk.{OwnChunk}
 use Rattle.hp_proc.specs.declared.own_element.OwnElement.{OwnElement}
 use Rattle.hp_serve.specs.declared.pages_asked.PagesAsked.{PagesAsked}
 use Rattle.hp_serve.specs.declared.sent.Sent.{Sent}
@@ -114,9 +121,20 @@ pub data Quietly : Seat → Seat → Type 0 where
   -- it made a call of the heap in its hand, which cut no run from it
   calls : (seat : Seat) (heap : ℕ) (call : HeapCall) (answer : HeapAnswer) → run_cut answer ≡ []
       → Quietly seat (having_done seat.party (Called heap call answer ∷ []) seat)
-  -- it noted where the elements of its lines lie
-  notes : (seat : Seat) (elements : List OwnElement)
-      → Quietly seat (leaving (record seat.standing { elements = elements }) seat)
+  -- it noted where the elements of its lines lie, and which chunks it has attached
+  notes : (seat : Seat) (elements : List OwnElement) (chunks : List OwnChunk)
+      → Quietly seat (leaving (record seat.standing { elements = elements; chunks = chunks }) seat)
+  -- it changed the names, or was handed the state of an external heap
+  changes_names : (seat : Seat) (change : NamesChange) → Quietly seat (having_done seat.party (NamesChanged change ∷ []) seat)
+  sees_heap : (seat : Seat) (heap : ℕ) (history : List Entry) → Quietly seat (having_done seat.party (HeapSeen heap history ∷ []) seat)
+  -- it was handed the plan that the segment value has for memory
+  plans_range : (seat : Seat) (addr len page : ℕ) (plan : Result ℕ RangeFault)
+      → Quietly seat (having_done seat.party (RangePlanned addr len page plan ∷ []) seat)
+  -- it mapped the pages of a chunk, or failed to; or its table lost the rows of one
+  maps_chunk : (seat : Seat) (chunk : Chunk) (maps : MapsView) (ended : Caught) → MapsChunk chunk seat.party.maps maps ended
+      → Quietly seat (having_done (with_maps maps seat.party) (ChunkMapped chunk ended ∷ []) seat)
+  leaves_chunk : (seat : Seat) (chunk : Chunk) (maps : MapsView) → LeavesChunk chunk seat.party.maps maps
+      → Quietly seat (seated (with_maps maps seat.party) seat)
   -- it read the names, or the newest statistics of a heap, which are noted as handed to its line
   reads_names : (seat : Seat) (names : SharedNames) → Quietly seat (having_done seat.party (NamesRead names ∷ []) seat)
   reads_stats : (seat : Seat) (heap : ℕ) (counted : Counted) → Quietly seat (having_done seat.party (StatsRead heap counted ∷ []) seat)
@@ -155,6 +173,16 @@ pub data Knows (count : ℕ) (seat : Seat) : CoreEvent → Type 0 where
   takes : (frame : Frame) (body : Body) (event : CoreEvent) → Contains seat.fetched frame → Says frame body → IsAskIn count body event
       → Knows count seat event
 
+-- external memory came, under the list that the segment value has for it, or went, and gave its list back
+pub data MovesRanges (segs : SegsView) : List ExternalRange → Type 0 where
+  comes : (list addr len page socket : ℕ) → range_plan addr len page segs ≡ Ok list
+      → MovesRanges segs (after_claim_range list addr len page socket segs).ranges
+  goes : (list : ℕ) → MovesRanges segs (after_release_range list segs).ranges
+
+-- the segment value has that external memory
+abbrev pub with_ranges : List ExternalRange → SegsView → SegsView
+with_ranges ranges segs = record segs { ranges = ranges }
+
 -- what it makes of the segment value, which it holds meanwhile
 pub data Handles (count who : ℕ) : Seat → Seat → SegsView → SegsView → Type 0 where
   -- it looks
@@ -188,12 +216,15 @@ pub data Handles (count who : ℕ) : Seat → Seat → SegsView → SegsView →
   cuts : (seat : Seat) (segs : SegsView) (heap addr : ℕ) (run : Run)
       → Handles count who seat (having_done seat.party (Called heap (call.Cut addr) (gives.Pages run) ∷ []) seat) segs
       (after_retire heap run segs)
+  -- external memory of the heap in its hand comes or goes
+  moves_ranges : (seat : Seat) (segs : SegsView) (ranges : List ExternalRange) → MovesRanges segs ranges
+      → Handles count who seat seat segs (with_ranges ranges segs)
   -- it attaches, or tries to, and detaches; and notes that
   attaches : (seat : Seat) (segs : SegsView) (caught : Caught) (after : Party) → Attaches seat.party after segs.log caught
       → Handles count who seat
       (leaving (standing_tried (length segs.log) caught seat.standing)
       (having_done after (Looked (length segs.log) ∷ CaughtUp (length segs.log) caught ∷ []) seat)) segs (after_attaching who caught segs)
-  detaches : (seat : Seat) (segs : SegsView) (told : List Listener) → who ≢ 0
+  detaches : (seat : Seat) (segs : SegsView) (told : List Listener) → who ≢ 0 → chunk_rows seat.party.maps.rows ≡ []
       → IsToldByAddress seat.party.maps.rows seat.party.listeners told
       → Handles count who seat
       (leaving (record seat.standing { attached = false }) (seated (after_detaching told seat.party) seat)) segs (after_leave who segs)

@@ -1,6 +1,6 @@
 -- How far a workload was run, by all its participants in one thread: what holds between two of its lines. The rule "Together" of
 -- docs/RUNS.md.
-use Rattle.std.specs.Prelude.{◌≡◌, ℕ, ◌+◌, ◌<◌, ◌≤◌, true, List, [], ◌∷◌, length, Some, slice_get, slice_index, Contains}
+use Rattle.std.specs.Prelude.{◌≡◌, ℕ, ◌+◌, ◌<◌, ◌≤◌, true, false, List, [], ◌∷◌, length, Some, slice_get, slice_index, Contains}
 use Rattle.std.specs.List.{All}
 use Rattle.hp_base.specs.declared.limits.TheConstants.{MAX_HEAPS}
 use Rattle.hp_plain.specs.Course.{IsCourse}
@@ -19,7 +19,7 @@ use Rattle.hp_script.specs.declared.workload.Workload.{Workload}
 use Rattle.hp_segs.specs.Opening.{opening}
 use Rattle.hp_segs.specs.SegsView.{SegsView, is_member}
 use Rattle.hp_segs.specs.declared.outcome.AskLog.{AskLog}
-use Rattle.hp_proc.specs.OneThread.{AreHandedInOrder}
+use Rattle.hp_proc.specs.OneThread.{names_by}
 use Rattle.hp_proc.specs.Handing.{shared_of}
 use Rattle.hp_proc.specs.Acting.{AreAsked}
 use Rattle.hp_proc.specs.Contexts.{Context}
@@ -107,6 +107,7 @@ pub record IsSoFarBy (workload : Workload) (courses : List Course) (parts : ℕ 
   pub asked : AreAsked log asks who 0 party.asked (trace_for who courses)
   pub ready : MayDo (moment_of (doer_of workload who courses party) parts log asks)
   pub tied : IsTied log own (λ heap. (parts heap).marked) party.joined party.maps
+  pub left : party.joined ≡ false → (heap : ℕ) → (parts heap).marked ≡ []
   pub chunks : (heap : ℕ) → AreMarkedAs heap (parts heap).marked (standing_of workload who courses).chunks
 
 -- how far a participant has come (`IsSoFarBy`), by what a hall of plain values shows of it
@@ -138,8 +139,8 @@ abbrev pub AreRegistered : Workload → List Course → ℕ → List LogRecord �
 AreRegistered workload courses reached log asks who party = All (λ listener.
     IsRegisteredBy who reached (opening_standing workload who) log asks (courses_of who courses) listener.name listener.since) party.listeners
 
--- the participants of a workload have done these lines in a hall of one thread, and have told so; they hold no slot; the names are those that the
--- lines leave, and each line was handed what those before it leave
+-- the participants of a workload have done these lines in a hall of one thread, and have told so; they hold no slot; the names are those that
+-- the lines leave
 pub record SoFar (workload : Workload) (courses : List Course) (parties : List Party) (hall : HallView) : Type 0 where
   -- the hall as it opened, and how it went on
   pub held : List HeldHeap
@@ -150,7 +151,7 @@ pub record SoFar (workload : Workload) (courses : List Course) (parties : List P
   pub names : NamesView
   pub named : slice_get (values_in hall) NAMES_SLOT ≡ Some (Names names)
   pub opened : names.heaps.sockets ≡ sockets_of workload.pools.items
-  pub handed : AreHandedInOrder workload courses (shared_of names)
+  pub leave : shared_of names ≡ names_by courses
   -- all participants, step by step
   pub first : GlobalState
   pub now : GlobalState

@@ -15,13 +15,13 @@ use Rattle.thm_run.specs.SoFar.{SoFar, standing_of}
 use Rattle.thm_run.specs.Together.{GlobalState}
 
 -- a participant's watchers have these names, in the order of registration; its table lags behind the log by records alone that it has not
--- taken in, and has no rows at all while it is out; and what each watcher was told since it was registered turns the bytes of the log's rows of
+-- taken in, and has none of its rows while it is out; and what each watcher was told since it was registered turns the bytes of the log's rows of
 -- then into those of now, while the rows of chunks are told to nobody
 pub record IsWatchedBy (log : List LogRecord) (party : Party) (watchers : List (List ℕ)) : Type 0 where
   pub names : names_of party.listeners ≡ watchers
   pub within : party.maps.number ≤ length log
   pub lags : Lags log party.maps.number (length log) (table_in party.maps.rows)
-  pub out : party.joined ≡ false → party.maps.rows ≡ []
+  pub out : party.joined ≡ false → table_in party.maps.rows ≡ []
   pub know : All (λ listener. AreTold listener.events (table_in listener.since) (table_in party.maps.rows)) party.listeners
 
 -- so it is with its seat, by the watchers that its lines left

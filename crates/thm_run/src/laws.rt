@@ -2,7 +2,7 @@
 ghost use Rattle.thm_run.specs.Apart.{ComeTogether};
 ghost use Rattle.thm_run.specs.ByRuns.{EndByRun, RunTogether};
 ghost use Rattle.thm_run.specs.Drops.{DropsGoOnByLine, DropsOpen, DropsRest};
-ghost use Rattle.thm_run.specs.EndLaws.{EndsSo, FailsByReason, FailsOnce, GoesOnByLine, OpensSoFar, RefusesByReason, RefusesOnce, RestsSoFar};
+ghost use Rattle.thm_run.specs.EndLaws.{EndsSo, FailsByReason, FailsOnce, GoesOnByLine, NamesEndSo, OpensSoFar, RefusesByReason, RefusesOnce, RestsSoFar};
 ghost use Rattle.thm_run.specs.Freed.{ShownGoOnByLine, ShownOpen, ShownRest};
 ghost use Rattle.thm_run.specs.Told.{CountedAtLast, NumbersByTold, ToldByPosts};
 ghost use Rattle.thm_run.specs.OwnHolds.{AnswersByHolds, HoldsGoOn, NoneByHolds, NoneGrowsForHeld, OutcomesByHolds, SeesByHolds, TurnsByHolds};
@@ -28,6 +28,12 @@ pub fn end_law()
     ensures { EndsSo }
 {}
 
+/// After the last line a run has come to names that have the changes of its lines and no others: directory, claimed memory, chunks, memzones
+/// and marks agree; and each line was handed what those before it leave. Own.
+pub fn names_end_law()
+    ensures { NamesEndSo }
+{}
+
 /// A growth that was refused as a mapping failed was so at a call at which that participant's mapper may fail, and at most one growth was
 /// refused by one call. Own.
 pub fn failure_law()
@@ -35,7 +41,8 @@ pub fn failure_law()
     ensures once { FailsOnce }
 {}
 
-/// An attach was refused at a call at which its participant's mapper may fail, and at most one was refused by one call. Own.
+/// A line that attaches its participant, or a chunk, was refused at a call at which its participant's mapper may fail, and at most one was
+/// refused by one call. Own.
 pub fn refusal_law()
     ensures fails { RefusesByReason }
     ensures once { RefusesOnce }

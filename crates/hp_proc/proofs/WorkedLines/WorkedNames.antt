@@ -1,6 +1,7 @@
 -- Worked values: allocations from a heap by its name, and what an end says of names, of memzones and of what was handed.
 use Rattle.std.proofs.Common.{◌≡◌, refl, arith, ℕ, ◌+◌, ◌-◌, ◌^◌, true, false, List, [], ◌∷◌, Option, Some, None}
-use Rattle.std.specs.Prelude.{codes}
+use Rattle.std.specs.Prelude.{codes, ⊥}
+use Rattle.std.proofs.lemmas.List.Sorted.{IsPermutation-refl, length_permutation}
 use Rattle.hp_base.specs.Flags as flags
 use Rattle.hp_base.specs.Requests.{IsAccepted}
 use Rattle.hp_base.specs.declared.request.BadRequest.TheVariants as bad
@@ -11,6 +12,7 @@ use Rattle.hp_base.specs.declared.tag.Tag.{Tag}
 use Rattle.hp_heap.proofs.AllocFacts.ChoiceLaw.{Contains-here}
 use Rattle.hp_heap.specs.History as history
 use Rattle.hp_heap.specs.History.{HeapView}
+use Rattle.hp_heap.specs.Joining.{zone_ranges}
 use Rattle.hp_heap.specs.declared.entry.Entry.{Entry}
 use Rattle.hp_heap.specs.declared.entry.HeapAnswer.TheVariants as gives
 use Rattle.hp_heap.specs.declared.entry.HeapCall.TheVariants as call
@@ -31,7 +33,7 @@ use Rattle.hp_proc.specs.Doing.{Counted, Doing, Done, Goes, Leads}
 use Rattle.hp_proc.specs.Doing.Done.{Called, HeapSeen, NamesChanged, NamesRead, StatsRead}
 use Rattle.hp_proc.specs.Handed.{AreStatesHanded, AreStatsHanded}
 use Rattle.hp_proc.specs.LinesDone.{Course}
-use Rattle.hp_proc.specs.NamesAtEnd.{HasElement, IsReserved, is_element_of}
+use Rattle.hp_proc.specs.NamesAtEnd.{AreElementsOf, IsReserved}
 use Rattle.hp_proc.specs.OneThread.{names_by}
 use Rattle.hp_proc.specs.SharedNames.{SharedNames, heaps_in, no_changes}
 use Rattle.hp_proc.specs.SharedNames.NamesChange.{OfHeaps, OfZones}
@@ -104,12 +106,9 @@ some_statistics : Leads (doing_of (line_of 6 0 (act.Stats (part (codes "ext"))))
 unfolding Goes Leads doing_of directory.socket_name heaps_in
 some_statistics = (named, refl, (zeros, refl, refl))
 
--- a heap with the element of a memzone that the line 2 reserves
+-- a heap with the element of a memzone
 abbrev name : List ℕ
 name = codes "RG_rx"
-
-abbrev lines : List Line
-lines = line_of 2 0 (act.Zone (part name) 100 (options None)) ∷ line_of 5 1 (act.Zone (part name) 500 (options None)) ∷ []
 
 abbrev element : ℕ → Span
 element number = record {
@@ -140,14 +139,19 @@ heap_with ranges history = record {
 abbrev zone : Zone
 zone = record { name = name; addr = 2 ^ 32 + 2 ^ 21 - 128; len = 128; socket = 0; heap = 0 }
 
--- it has its element where that has the number of the first line that reserves the name, and not where it has another's, or has gone
-an_element : HasElement lines (heap_with (element 2 ∷ []) [] ∷ []) zone
-an_element = record { heap = heap_with (element 2 ∷ []) []; there = refl; socket = refl; one = refl }
+abbrev with_zone : SharedNames
+with_zone = record { zones = Put zone ∷ []; heaps = [] }
 
-of_the_second_line : is_element_of lines zone (element 5) ≡ false
-of_the_second_line = refl
+-- it lies where its element has its data, and nowhere where there is no element
+an_element : AreElementsOf with_zone 0 (heap_with (element 2 ∷ []) []).plain
+unfolding zone_ranges
+an_element = IsPermutation-refl (zone.addr ∷ [])
 
--- it was reserved where an allocation of its length was answered its address
+without_element : AreElementsOf with_zone 0 (heap_with [] []).plain → ⊥
+unfolding zone_ranges
+without_element are = let many = length_permutation (zone.addr ∷ []) [] are in grind (arith, many)
+
+-- it was reserved where an allocation was answered its address
 module _ (accepted : IsAccepted 128 64 0) where
   abbrev zone_request : Request
   zone_request = record { size = 128; align = 64; bound = 0; flags = 0; accepted = accepted }
@@ -159,19 +163,15 @@ module _ (accepted : IsAccepted 128 64 0) where
     answer = gives.Address zone.addr;
   }
 
-  a_reservation : IsReserved lines (heap_with [] (reserving_entry ∷ []) ∷ []) zone
+  a_reservation : IsReserved (heap_with [] (reserving_entry ∷ []) ∷ []) zone
   a_reservation = record {
     heap = heap_with [] (reserving_entry ∷ []);
     there = refl;
-    entry = reserving_entry;
-    made = Contains-here reserving_entry [];
-    request = zone_request;
-    tag = record { who = 0; zone = true; number = 2 };
-    allocates = refl;
-    found = refl;
-    size = refl;
-    of_zone = refl;
-    under = refl;
+    allocated = record {
+      entry = reserving_entry;
+      there = Contains-here reserving_entry [];
+      at = record { request = zone_request; tag = record { who = 0; zone = true; number = 2 }; asked = refl; answered = refl };
+    };
   }
 
 -- what lines leave of the names which are done one after another

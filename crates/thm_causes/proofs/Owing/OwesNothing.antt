@@ -1,12 +1,13 @@
 -- A line gives word of each run that it cuts before it asks for pages, and before it ends.
-use Rattle.std.proofs.Common.{◌≡◌, Bool, true, false, List, ◌∷◌, refl, sym, subst}
+use Rattle.std.proofs.Common.{◌≡◌, Bool, true, false, List, ◌∷◌, refl, sym, subst, map}
 use Rattle.hp_heap.specs.declared.entry.HeapAnswer.{HeapAnswer}
 use Rattle.hp_heap.specs.declared.entry.HeapAnswer.TheVariants as gives
 use Rattle.hp_heap.specs.declared.entry.HeapCall.{HeapCall}
 use Rattle.hp_heap.specs.declared.entry.HeapCall.TheVariants as call
 use Rattle.hp_script.specs.declared.answer.Answer.{Answer}
 use Rattle.hp_proc.specs.Doing.{Done}
-use Rattle.hp_proc.specs.Doing.Done.{Asked, Called, GaveUp}
+use Rattle.hp_proc.specs.Doing.Done.{Asked, Called, GaveUp, NamesChanged}
+use Rattle.hp_proc.specs.SharedNames.{NamesChange}
 use Rattle.thm_run.proofs.TracesTold.OrderlyLines.{line_in_order}
 use Rattle.thm_run.proofs.TracesTold.OrderlyTraces.{CutsNone, IsOrderly, LeavesAll, asked_behind, ends, goes_on, is_granted, tells}
 use Rattle.thm_causes.specs.Lines.{LinesOweNothing, Owes, is_cut}
@@ -26,14 +27,19 @@ owes_on (Asked pages run) trace leaves rest = (refl, rest)
 owes_on (GaveUp heap run) trace leaves rest = absurd leaves
 owes_on _ trace leaves rest = (tt, rest)
 
+changes_owe : (changes : List NamesChange) → Owes false (map NamesChanged changes) false
+unfolding Owes
+changes_owe [] = refl
+changes_owe (change ∷ changes) = (tt, changes_owe changes)
+
 -- along an orderly trace word is given before pages are asked for, and before the end
 orderly_owes : (given : Answer) (asked : Bool) (trace : List Done) → IsOrderly true given asked trace → Owes false trace false
 unfolding Owes
 orderly_owes given _ _ (ends asked) = refl
 orderly_owes given _ _ (goes_on asked done trace leaves rest) =
     owes_on done trace leaves (orderly_owes given (asked_behind asked done) trace rest)
-orderly_owes given _ _ (tells heap address run) = (tt, (tt, refl))
-orderly_owes given _ _ (is_granted asked pages run tag grown found allows last) = (refl, (tt, (tt, refl)))
+orderly_owes given _ _ (tells heap address run ended) = (tt, (tt, refl))
+orderly_owes given _ _ (is_granted asked pages run tag grown found changes allows last only) = (refl, (tt, (tt, changes_owe changes)))
 
 -- so each line owes nothing after its end
 pub lines_owe_nothing : LinesOweNothing

@@ -3,9 +3,11 @@ use Rattle.std.proofs.Common.{◌≡◌, ◌≢◌, ◌∙◌, ℕ, ◌<◌, Lis
 use Rattle.std.specs.List.{AllByRecursion}
 use Rattle.std.specs.Prelude.{⊤, slice_get}
 use Rattle.std.proofs.lemmas.Bool.{cases_eq}
-use Rattle.hp_hall.specs.Mail.{MailStep, Notes, steps_of}
+use Rattle.hp_hall.specs.Mail.{Gives, MailStep, Notes, steps_of}
 use Rattle.hp_hall.specs.declared.kept.Kept.{Kept}
+use Rattle.hp_hall.specs.declared.kept.Kept.TheVariants.{Names}
 use Rattle.hp_hall.specs.declared.note.Note.TheVariants.{Published, ReadStats, Stored}
+use Rattle.hp_hall.specs.declared.slot.TheConstants.{NAMES_SLOT}
 use Rattle.hp_plain.specs.Keeping.{IsKeptBy, values_after}
 use Rattle.hp_plain.specs.Told.{AreTold, ShowsTold, Told, told_after}
 use Rattle.hp_proc.proofs.Joining.{calls_on}
@@ -125,18 +127,29 @@ pub acts_read : {count : ℕ} {hand last : Option ℕ} {held : List ℕ} {doer a
     → AllByRecursion (IsReadSo newest) trace
 acts_read newest (Acts.nothing hand doer) reads = tt
 acts_read newest (Acts.waits_turn until doer after moved steps turned) reads = tt
-acts_read newest (Acts.takes_heap doer heap pen) reads = tt
+acts_read newest (Acts.takes_heap doer heap pen few) reads = tt
 acts_read newest (Acts.gives_heap doer heap pen) reads = tt
 acts_read newest (Acts.makes_call doer heap call answer none) reads = (tt, tt)
 acts_read newest (Acts.cuts_run doer heap addr run taken) reads = (tt, tt)
 acts_read newest (Acts.asks_pages doer after asked run steps asks) reads = (tt, tt)
 acts_read newest (Acts.notifies_run doer after heap run steps notifies) reads = (tt, tt)
 acts_read newest (Acts.attaches doer after taken caught attaches) reads = (tt, (tt, tt))
-acts_read newest (Acts.detaches doer taken told above heard) reads = tt
+acts_read newest (Acts.detaches doer taken told above left bare heard) reads = tt
 acts_read newest (Acts.notes_left doer elements) reads = tt
 acts_read newest (Acts.reads_names doer names) reads = (tt, tt)
 acts_read newest (Acts.looks_up_lines doer other lines) reads = tt
 acts_read newest (Acts.reads_stats doer heap pair) reads = ((pair, reads.0, refl), tt)
+acts_read newest (Acts.changes_names hand doer change) reads = (tt, tt)
+acts_read newest (Acts.holds_names held doer after taken given trace steps inner changes) reads =
+    (tt, acts_read newest inner (all_split (IsReadOf newest) steps (Gives NAMES_SLOT (Names given) ∷ []) reads.1).0)
+acts_read newest (Acts.sees_heap doer heap pen few) reads = (tt, tt)
+acts_read newest (Acts.looks_at_segs doer heap taken) reads = tt
+acts_read newest (Acts.plans_range doer heap addr len page taken) reads = (tt, tt)
+acts_read newest (Acts.claims doer heap chunk taken plan) reads = (tt, (tt, (tt, tt)))
+acts_read newest (Acts.releases doer heap chunk taken) reads = (tt, (tt, tt))
+acts_read newest (Acts.maps_chunk doer heap chunk after ended is) reads = (tt, tt)
+acts_read newest (Acts.shares doer heap chunk same) reads = (tt, tt)
+acts_read newest (Acts.leaves doer heap chunk after is) reads = (tt, tt)
 acts_read newest (Acts.and_then hand between last held more doer mid after first rest before later here next) reads =
     let parts = all_split (IsReadOf newest) before later reads in
     all_both (IsReadSo newest) first rest (acts_read newest here parts.0) (acts_read newest next parts.1)
@@ -155,7 +168,7 @@ acts_bare {count} (Acts.waits_turn until doer after moved steps turned) none emp
   calls = refl;
   publishes = gives_publish steps (turn_none (denials_of doer.context.standing) count until doer.party after steps moved turned);
 }
-acts_bare (Acts.takes_heap doer heap pen) none empty = absurd (no_front heap.plain.index [] none)
+acts_bare (Acts.takes_heap doer heap pen few) none empty = absurd (no_front heap.plain.index [] none)
 acts_bare (Acts.gives_heap doer heap pen) none empty = absurd (no_hand heap.plain.index empty)
 acts_bare (Acts.makes_call doer heap call answer cuts) none empty = absurd (no_hand heap empty)
 acts_bare (Acts.cuts_run doer heap addr run taken) none empty = absurd (no_hand heap empty)
@@ -172,11 +185,27 @@ acts_bare (Acts.attaches doer after taken caught attaches) none empty =
     let no_heap : GiveNoHeap steps =
     (tt, none_both (acks_after caught (length taken.log)) gives (acks_none caught (length taken.log)) last) in
     record { hand = refl; calls = refl; publishes = gives_publish steps no_heap }
-acts_bare (Acts.detaches doer taken told above heard) none empty = record { hand = refl; calls = refl; publishes = (tt, (tt, (tt, tt))) }
+acts_bare (Acts.detaches doer taken told above left bare heard) none empty = record { hand = refl; calls = refl; publishes = (tt, (tt, (tt, tt))) }
 acts_bare (Acts.notes_left doer elements) none empty = record { hand = refl; calls = refl; publishes = tt }
 acts_bare (Acts.reads_names doer names) none empty = record { hand = refl; calls = refl; publishes = (tt, (tt, tt)) }
 acts_bare (Acts.looks_up_lines doer other lines) none empty = record { hand = refl; calls = refl; publishes = (tt, tt) }
 acts_bare (Acts.reads_stats doer heap pair) none empty = record { hand = refl; calls = refl; publishes = (tt, tt) }
+acts_bare (Acts.changes_names hand doer change) none empty = record { hand = empty; calls = refl; publishes = tt }
+acts_bare (Acts.holds_names held doer after taken given trace steps inner changes) none empty =
+    let rest = acts_bare inner none refl in
+    record {
+      hand = refl;
+      calls = rest.calls;
+      publishes = (tt, all_both IsNoPair steps (Gives NAMES_SLOT (Names given) ∷ []) rest.publishes (tt, tt));
+    }
+acts_bare (Acts.sees_heap doer heap pen few) none empty = absurd (no_front heap.plain.index [] none)
+acts_bare (Acts.looks_at_segs doer heap taken) none empty = absurd (no_hand heap empty)
+acts_bare (Acts.plans_range doer heap addr len page taken) none empty = absurd (no_hand heap empty)
+acts_bare (Acts.claims doer heap chunk taken plan) none empty = absurd (no_hand heap empty)
+acts_bare (Acts.releases doer heap chunk taken) none empty = absurd (no_hand heap empty)
+acts_bare (Acts.maps_chunk doer heap chunk after ended is) none empty = absurd (no_hand heap empty)
+acts_bare (Acts.shares doer heap chunk same) none empty = absurd (no_hand heap empty)
+acts_bare (Acts.leaves doer heap chunk after is) none empty = absurd (no_hand heap empty)
 acts_bare (Acts.and_then hand between last held more doer mid after first rest before later here next) none empty =
     let early = acts_bare here (first_nil held more none) empty in
     let late = acts_bare next (last_nil held more none) early.hand in

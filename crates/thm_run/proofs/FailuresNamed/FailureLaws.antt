@@ -11,11 +11,10 @@ use Rattle.hp_base.specs.declared.limits.TheConstants.{MAX_HEAPS}
 use Rattle.hp_plain.specs.HallView.{HallView, segs_in, slot_at}
 use Rattle.hp_script.specs.declared.workload.Workload.{Workload}
 use Rattle.hp_segs.specs.SegsView.{SegsView, is_member}
-use Rattle.hp_proc.specs.Courses.{refusals_in}
 use Rattle.hp_proc.specs.LinesDone.{Course, courses_of, opening_standing, standing_after, trace_of}
 use Rattle.hp_proc.specs.Outcomes.{AreAskedFor, IsRefusedIn}
 use Rattle.hp_serve.specs.Party.{Party}
-use Rattle.hp_proc.specs.Seen.{AreRefusals, IsRefusedRow}
+use Rattle.hp_proc.specs.Handed.{AreOwnFailures, IsFailureOfItsRow, calls_failed}
 use Rattle.thm_run.proofs.PathSteps.ByMail.{run_of}
 use Rattle.thm_run.specs.EndLaws.{FailsByReason, FailsOnce, RefusesByReason, RefusesOnce}
 use Rattle.thm_run.specs.Seats.{Seat}
@@ -65,21 +64,21 @@ module _ (workload : Workload) (courses : List Course) (parties : List Party) (h
       so.roster who one.seat one.there ∙ (so.each who one.seat.party (so.seats who one.seat one.there).party).joined
 
   -- the clause `refusals`
-  pub refusals_so_far : (who : ℕ) → AreRefusals so.now.segs.log (trace_of (courses_of who courses))
+  pub refusals_so_far : (who : ℕ) → AreOwnFailures so.now.segs.log (trace_of (courses_of who courses))
   refusals_so_far who =
       elim (cases_lt who workload.participants) [
         | inl declared ↦
             let one = its_seat who declared in
-            subst (AreRefusals so.now.segs.log) (so.seats who one.seat one.there).trace
+            subst (AreOwnFailures so.now.segs.log) (so.seats who one.seat one.there).trace
             (refusals workload.participants workload.absent workload.pools.items so.first so.now so.is_first (run_of so.runs) who one.seat one.there)
         | inr beyond ↦
-            subst (λ lines. AreRefusals so.now.segs.log (trace_of lines))
+            subst (λ lines. AreOwnFailures so.now.segs.log (trace_of lines))
             (sym (none_of_others workload.participants who courses (omega (arith, beyond)) so.built)) none_refused
       ]
     where
-      none_refused : AreRefusals so.now.segs.log []
+      none_refused : AreOwnFailures so.now.segs.log []
       none_refused = record {
-        rows = All-nil (IsRefusedRow so.now.segs.log);
+        rows = All-nil (IsFailureOfItsRow so.now.segs.log);
         some = All-nil (λ number. 0 < number);
         rising = λ k within. omega (arith, within);
       }
@@ -115,7 +114,7 @@ so_far_refuses workload courses parties hall course participant call given so (p
     let one = its_seat workload courses parties hall so participant declared in
     let its = so.seats participant one.seat one.there in
     let there : slice_get courses place ≡ Some course = slice_get-get_or courses place course within ∙ ap Some is in
-    let shown : Contains (refusals_in (trace_for participant courses)) call =
+    let shown : Contains (calls_failed (trace_for participant courses)) call =
     shows_in workload participant call (opening_standing workload participant) courses (so.done participant declared) place course there
     refused in
     record {
@@ -123,7 +122,7 @@ so_far_refuses workload courses parties hall course participant call given so (p
       its = its.party;
       may =
           refused_by_reason workload.participants workload.absent workload.pools.items so.first so.now so.is_first (run_of so.runs) participant
-          one.seat one.there call (subst (λ trace. Contains (refusals_in trace) call) (sym its.trace) shown);
+          one.seat one.there call (subst (λ trace. Contains (calls_failed trace) call) (sym its.trace) shown);
     }
 
 -- and two of one call are one line
@@ -139,4 +138,4 @@ so_far_refuses_once workload courses parties hall place other course second part
     (attached_so workload.participants workload.absent workload.pools.items so.first so.now so.is_first (run_of so.runs) participant one.seat
     one.there).rising in
     places_same workload participant call (opening_standing workload participant) courses (so.done participant declared)
-    (subst (λ trace. IsStrictlyIncreasing (refusals_in trace)) its.trace rising) place other course second here there refused too
+    (subst (λ trace. IsStrictlyIncreasing (calls_failed trace)) its.trace rising) place other course second here there refused too

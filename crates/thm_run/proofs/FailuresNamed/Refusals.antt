@@ -8,10 +8,9 @@ use Rattle.std.proofs.lemmas.List.Elements.{All-contains, All-nil, All-weaker}
 use Rattle.hp_base.specs.Mapping.{may_fail_at}
 use Rattle.hp_base.specs.declared.pool_line.PoolLine.{PoolLine}
 use Rattle.hp_log.specs.declared.log_record.LogRecord.{LogRecord}
-use Rattle.hp_proc.specs.Courses.{refusals_in}
 use Rattle.hp_proc.specs.Doing.{Done}
-use Rattle.hp_proc.specs.Doing.Done.{CaughtUp, Looked}
-use Rattle.hp_proc.specs.Seen.{AreRefusals, IsRefusedRow}
+use Rattle.hp_proc.specs.Doing.Done.{CaughtUp, ChunkMapped, Looked}
+use Rattle.hp_proc.specs.Handed.{AreOwnFailures, IsFailureOfItsRow, calls_failed}
 use Rattle.thm_run.specs.Seats.{Seat}
 use Rattle.thm_run.specs.Together.{IsFirst, GlobalState, Runs, Steps}
 use Rattle.thm_run.proofs.SeatFacts.LogAlong.{HasRecords, step_records}
@@ -59,8 +58,8 @@ step_attached count _ _ (Steps.handles at who old new given there did kept armed
 nothing_shown : (log : List LogRecord) (seat : Seat) → seat.trace ≡ [] → IsAttachedSo log seat
 nothing_shown log seat nothing = record {
   done = subst (All (IsOfLog log)) (sym nothing) (All-nil (IsOfLog log));
-  calls = subst (All (IsRefusedCall seat.party.maps)) (sym (ap refusals_in nothing)) (All-nil (IsRefusedCall seat.party.maps));
-  rising = subst IsStrictlyIncreasing (sym (ap refusals_in nothing)) none_rise;
+  calls = subst (All (IsRefusedCall seat.party.maps)) (sym (ap calls_failed nothing)) (All-nil (IsRefusedCall seat.party.maps));
+  rising = subst IsStrictlyIncreasing (sym (ap calls_failed nothing)) none_rise;
 }
   where
     none_rise : IsStrictlyIncreasing []
@@ -77,25 +76,26 @@ module _ (count absent : ℕ) (pools : List PoolLine) (first now : GlobalState) 
           step_attached count mid at step
           (step_records count mid at step (armed_along count absent pools first is mid runs).growth) (all_attached mid runs)
 
-  -- the refusals of a participant's catchings up: each is of a row of the log, and their calls rise from 1
-  pub refusals : (who : ℕ) (seat : Seat) → slice_get now.seats who ≡ Some seat → AreRefusals now.segs.log seat.trace
+  -- the mappings of a participant that failed: each is of a row of the log or of a chunk, and their calls rise from 1
+  pub refusals : (who : ℕ) (seat : Seat) → slice_get now.seats who ≡ Some seat → AreOwnFailures now.segs.log seat.trace
   refusals who seat there =
       let so = attached_so who seat there in
       record {
-        rows = All-weaker (IsOfLog now.segs.log) (IsRefusedRow now.segs.log) (row_in now.segs.log) seat.trace so.done;
-        some = All-weaker (IsRefusedCall seat.party.maps) (λ number. 0 < number) (λ number is. is.some) (refusals_in seat.trace) so.calls;
+        rows = All-weaker (IsOfLog now.segs.log) (IsFailureOfItsRow now.segs.log) (row_in now.segs.log) seat.trace so.done;
+        some = All-weaker (IsRefusedCall seat.party.maps) (λ number. 0 < number) (λ number is. is.some) (calls_failed seat.trace) so.calls;
         rising = so.rising;
       }
     where
-      row_in : (log : List LogRecord) (done : Done) → IsOfLog log done → IsRefusedRow log done
+      row_in : (log : List LogRecord) (done : Done) → IsOfLog log done → IsFailureOfItsRow log done
       row_in log (CaughtUp to ended) is = is.1
+      row_in log (ChunkMapped chunk ended) is = is
       row_in log _ is = tt
 
   -- each such call is one at which the mapper may fail
   pub refused_by_reason : (who : ℕ) (seat : Seat) → slice_get now.seats who ≡ Some seat → (call : ℕ)
-      → Contains (refusals_in seat.trace) call → may_fail_at seat.party.maps.may_fail call ≡ true
+      → Contains (calls_failed seat.trace) call → may_fail_at seat.party.maps.may_fail call ≡ true
   refused_by_reason who seat there call among =
-      (All-contains (IsRefusedCall seat.party.maps) (refusals_in seat.trace) call (attached_so who seat there).calls among).may
+      (All-contains (IsRefusedCall seat.party.maps) (calls_failed seat.trace) call (attached_so who seat there).calls among).may
 
   -- a look shows no more records than there are
   pub looks : (who : ℕ) (seat : Seat) → slice_get now.seats who ≡ Some seat → (records : ℕ) → Contains seat.trace (Looked records)

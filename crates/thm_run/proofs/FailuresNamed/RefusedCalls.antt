@@ -9,6 +9,7 @@ use Rattle.std.proofs.lemmas.List.{get_or-append_right, get_or_append_left, take
 use Rattle.hp_base.specs.Mapping.{FailingCall, may_fail_at, own_place, FailsSo}
 use Rattle.hp_base.specs.declared.caught.Caught.{Caught}
 use Rattle.hp_base.specs.declared.caught.Caught.TheVariants as caught
+use Rattle.hp_base.specs.declared.chunk.Chunk.{Chunk}
 use Rattle.hp_base.specs.declared.map_answer.MapAnswer.{MapAnswer}
 use Rattle.hp_base.specs.declared.map_answer.MapAnswer.TheVariants as answer
 use Rattle.hp_base.specs.declared.row.Row.{Row}
@@ -16,11 +17,13 @@ use Rattle.hp_heap.proofs.AllocFacts.ChoiceLaw.{Contains-here, Contains-there}
 use Rattle.hp_log.specs.Log.{table_at, table_of}
 use Rattle.hp_log.specs.declared.log_record.LogRecord.{LogRecord}
 use Rattle.hp_maps.specs.Catching.{HasAnswered, HasFailed, HasReason, new_rows, newer}
+use Rattle.hp_maps.specs.Chunks.{rows_of_chunk}
 use Rattle.hp_maps.specs.MapsView.{MapsView}
-use Rattle.hp_proc.specs.Courses.{call_refused, refusals_in}
+use Rattle.hp_proc.specs.Courses.{call_refused}
 use Rattle.hp_proc.specs.Doing.{Done}
-use Rattle.hp_proc.specs.Doing.Done.{CaughtUp, Looked}
+use Rattle.hp_proc.specs.Doing.Done.{CaughtUp, ChunkMapped, Looked}
 use Rattle.hp_proc.specs.Seen.{IsRefusedRow}
+use Rattle.hp_proc.specs.Handed.{IsRowOfChunk, calls_failed}
 use Rattle.hp_serve.specs.Serving.{CatchesUp}
 use Rattle.thm_run.proofs.SeatFacts.TableRows.{row_of_table}
 use Rattle.std.proofs.lemmas.List.Folds.{list_any_at}
@@ -34,11 +37,14 @@ read_among (first ∷ xs) zero x here =
 read_among (first ∷ xs) (suc place) x here = Contains-there first x xs (read_among xs place x here)
 
 -- the calls by which catchings up were refused, of two traces
-pub refusals_both : (trace more : List Done) → refusals_in (trace ++ more) ≡ refusals_in trace ++ refusals_in more
+pub refusals_both : (trace more : List Done) → calls_failed (trace ++ more) ≡ calls_failed trace ++ calls_failed more
 refusals_both [] more = refl
 refusals_both (CaughtUp to ended ∷ trace) more =
     ap (λ calls. call_refused ended ++ calls) (refusals_both trace more)
-    ∙ sym (append_assoc (call_refused ended) (refusals_in trace) (refusals_in more))
+    ∙ sym (append_assoc (call_refused ended) (calls_failed trace) (calls_failed more))
+refusals_both (ChunkMapped chunk ended ∷ trace) more =
+    ap (λ calls. call_refused ended ++ calls) (refusals_both trace more)
+    ∙ sym (append_assoc (call_refused ended) (calls_failed trace) (calls_failed more))
 refusals_both (_ ∷ trace) more = refusals_both trace more
 
 -- numbers that rise still do with one more that is above a bound of theirs
@@ -75,6 +81,11 @@ pub data BringsCalls (old new : List MapAnswer) (may_fail : Option (List Failing
   one : (call : ℕ) → calls ≡ call ∷ [] → length old < call → call ≡ length new → may_fail_at may_fail call ≡ true
       → BringsCalls old new may_fail calls
 
+pub brings_longer : (old new : List MapAnswer) (may_fail : Option (List FailingCall)) (calls : List ℕ) → BringsCalls old new may_fail calls
+    → length old ≤ length new
+brings_longer old new may_fail calls (none is longer) = longer
+brings_longer old new may_fail calls (one call is more last may) = omega (arith, more, last)
+
 failed_call : (fresh : List Row) (old new : List MapAnswer) (row : Row) (call : ℕ) (got : MapAnswer)
     → HasFailed fresh old new row call got → length old < length new
 failed_call fresh old new row call got failed =
@@ -82,7 +93,7 @@ failed_call fresh old new row call got failed =
     let first = length-append old (map own_place (take failed.place fresh)) in
     omega (arith, ap length failed.answered, before, first)
 
-brings_calls : (fresh : List Row) (old new : List MapAnswer) (may_fail : Option (List FailingCall)) (ended : Caught) → HasAnswered fresh old new ended
+pub brings_calls : (fresh : List Row) (old new : List MapAnswer) (may_fail : Option (List FailingCall)) (ended : Caught) → HasAnswered fresh old new ended
     → HasReason may_fail ended → BringsCalls old new may_fail (call_refused ended)
 brings_calls fresh old new may_fail caught.Done answered reason =
     none refl (omega (arith, ap length answered, length-append old (map own_place fresh)))
@@ -119,16 +130,21 @@ module _ (log : List LogRecord) (old new : MapsView) (ended : Caught) (caught_up
 
   -- the mapper made no fewer calls
   pub catching_longer : length old.answers ≤ length new.answers
-  catching_longer = by_calls catching_brings
-    where
-      by_calls : BringsCalls old.answers new.answers old.may_fail (call_refused ended) → length old.answers ≤ length new.answers
-      by_calls (none is longer) = longer
-      by_calls (one call is more last may) = omega (arith, more, last)
+  catching_longer = brings_longer old.answers new.answers old.may_fail (call_refused ended) catching_brings
 
--- what was done is of these records: a look shows no more than there are, and a row that was refused is one of them
+-- a row of a chunk that was refused is one of the chunk's
+pub chunk_row : (chunk : Chunk) (old new : List MapAnswer) (ended : Caught) → HasAnswered (rows_of_chunk chunk) old new ended
+    → IsRowOfChunk chunk ended
+chunk_row chunk old new caught.Done answered = tt
+chunk_row chunk old new (caught.Refused row call) failed = read_among (rows_of_chunk chunk) failed.place row failed.its_row
+chunk_row chunk old new (caught.Elsewhere row call got) failed =
+    (read_among (rows_of_chunk chunk) failed.0.place row failed.0.its_row, failed.1)
+
+-- what was done is of these records: a look shows no more than there are, and a row that was refused is one of them, or of a chunk
 abbrev pub IsOfLog : List LogRecord → Done → Type 0
 IsOfLog log (Looked records) = records ≤ length log
 IsOfLog log (CaughtUp to ended) = (to ≤ length log) × IsRefusedRow log (CaughtUp to ended)
+IsOfLog log (ChunkMapped chunk ended) = IsRowOfChunk chunk ended
 IsOfLog log _ = ⊤
 
 -- so it is with more records
@@ -143,4 +159,5 @@ of_more_records log more (CaughtUp to ended) is = (omega (arith, is.0, length-ap
     by_end caught.Done row = tt
     by_end (caught.Refused row call) its = subst (λ table. Contains table row) table_stays its
     by_end (caught.Elsewhere row call got) its = (subst (λ table. Contains table row) table_stays its.0, its.1)
+of_more_records log more (ChunkMapped chunk ended) is = is
 of_more_records log more _ is = tt

@@ -1,5 +1,5 @@
 -- The runs by which a participant's calls grew a heap are those that were granted for it, in their order.
-use Rattle.std.proofs.Common.{◌≡◌, ◌==◌, ◌∙◌, ℕ, ◌+◌, Bool, true, false, cond, List, [], ◌∷◌, ◌++◌, Some, refl, ap, sym, if◌then◌else◌, append_assoc}
+use Rattle.std.proofs.Common.{◌≡◌, ◌==◌, ◌∙◌, ℕ, ◌+◌, Bool, true, false, cond, List, [], ◌∷◌, ◌++◌, Some, refl, ap, sym, if◌then◌else◌, append_assoc, map}
 use Rattle.hp_base.specs.declared.row.Run.{Run}
 use Rattle.hp_heap.specs.declared.entry.Entry.{Entry}
 use Rattle.hp_heap.specs.declared.entry.HeapAnswer.TheVariants as gives
@@ -8,10 +8,11 @@ use Rattle.hp_script.specs.declared.answer.Answer.{Answer}
 use Rattle.hp_script.specs.declared.workload.Workload.{Workload}
 use Rattle.hp_proc.specs.Courses.{OwnCall, Standing, calls_in, numbered_in}
 use Rattle.hp_proc.specs.Doing.{Done}
-use Rattle.hp_proc.specs.Doing.Done.{Asked, Called}
+use Rattle.hp_proc.specs.Doing.Done.{Asked, Called, NamesChanged}
 use Rattle.hp_heap.specs.HistoryLaws.{run_grown, runs_grown}
 use Rattle.hp_proc.specs.Histories.{entries_for, entry_for}
 use Rattle.hp_proc.specs.LinesDone.{Course, IsDone}
+use Rattle.hp_proc.specs.SharedNames.{NamesChange}
 use Rattle.thm_run.proofs.TracesTold.OrderlyLines.{line_in_order}
 use Rattle.thm_run.proofs.TracesTold.OrderlyTraces.{IsOrderly, LeavesAll, asked_behind, ends, goes_on, is_granted, tells}
 
@@ -63,6 +64,15 @@ none_grows who index number (Called heap step found) trace leaves rest =
 none_grows who index number (Asked pages (Some run)) trace leaves rest = absurd leaves
 none_grows who index number _ trace leaves rest = rest number
 
+-- changes of the names call no heap, and grant none anything
+changes_call : (changes : List NamesChange) → calls_in (map NamesChanged changes) ≡ []
+changes_call [] = refl
+changes_call (change ∷ changes) = changes_call changes
+
+changes_run : (index : ℕ) (changes : List NamesChange) → runs_for index (map NamesChanged changes) ≡ []
+changes_run index [] = refl
+changes_run index (change ∷ changes) = changes_run index changes
+
 -- where each granted run comes to its heap, the heap grows by what was granted for it
 pub orderly_grows : (given : Answer) (who index number : ℕ) (asked : Bool) (trace : List Done) → IsOrderly true given asked trace
     → grown_by who index number trace ≡ runs_for index trace
@@ -70,13 +80,14 @@ unfolding runs_grown
 orderly_grows given who index number _ _ (ends asked) = refl
 orderly_grows given who index number _ _ (goes_on asked done trace leaves rest) =
     none_grows who index number done trace leaves (λ next. orderly_grows given who index next (asked_behind asked done) trace rest)
-orderly_grows given who index number _ _ (tells heap address run) =
+orderly_grows given who index number _ _ (tells heap address run ended) =
     no_growth who index number (record { heap = heap; call = call.Cut address; answer = gives.Pages run }) [] refl (heap == index)
-orderly_grows given who index number _ _ (is_granted asked pages run tag grown found allows last) =
-    one_growth run
-    (entry_for who number (record { heap = pages.heap; call = call.Grow run; answer = grown }))
-    (entry_for who (number + 1) (record { heap = pages.heap; call = call.Alloc pages.request tag; answer = found }))
-    (pages.heap == index) refl refl
+orderly_grows given who index number _ _ (is_granted asked pages run tag grown found changes allows last only) =
+    let grow : OwnCall = record { heap = pages.heap; call = call.Grow run; answer = grown } in
+    let search : OwnCall = record { heap = pages.heap; call = call.Alloc pages.request tag; answer = found } in
+    ap (λ (calls : List OwnCall). runs_grown (entries_for who index number (grow ∷ search ∷ calls))) (changes_call changes)
+    ∙ (one_growth run (entry_for who number grow) (entry_for who (number + 1) search) (pages.heap == index) refl refl
+    ∙ sym (ap (λ (runs : List Run). cond (pages.heap == index) (run ∷ []) [] ++ runs) (changes_run index changes)))
 
 -- so it is with each line
 pub line_grows : (workload : Workload) (standing : Standing) (course : Course) (who index number : ℕ) → IsDone workload standing course

@@ -24,7 +24,6 @@ use Rattle.thm_run.specs.SoFar.{SoFar, first_hall, first_segs}
 use Rattle.thm_run.proofs.SeatFacts.FirstSegs.{nobody_first}
 use Rattle.thm_run.proofs.HallFacts.HallEnds.{are_segs, party_of}
 use Rattle.thm_run.proofs.HallFacts.HallHistories.{undeclared_idle}
-use Rattle.thm_run.proofs.RunFacts.RunCauses.{ranges_stay}
 use Rattle.thm_run.proofs.SeatFacts.SeatsAlong.{count_along}
 use Rattle.thm_run.proofs.SeatFacts.SegsAlong.{sound_along}
 use Rattle.thm_run.proofs.RunFacts.SoFarFacts.{none_open_so_far}
@@ -75,13 +74,6 @@ module _ (workload : Workload) (courses : List Course) (parties : List Party) (h
       pools_stay (first_segs workload) so.now.segs
       (later_segs (slot_at (first_hall workload so.held) MAX_HEAPS) (slot_at hall MAX_HEAPS) (first_segs workload) so.now.segs
       (so.course.slots MAX_HEAPS) are.early are.late)
-
-  -- the clause `external`
-  pub none_external : so.now.segs.ranges ≡ []
-  none_external =
-      ranges_stay workload.participants workload.absent workload.pools.items so.first so.now so.is_first (run_of so.runs) workload.deadline
-      (λ who seat there. (so.each who seat.party (so.seats who seat there).party).deadline)
-      ∙ ap (λ (segs : SegsView). segs.ranges) so.is_first.segs
 
   -- the clause `settled`
   pub none_growing : so.now.segs.growth ≡ None

@@ -5,8 +5,10 @@ use Rattle.std.specs.List.{All, filter, slice_get}
 use Rattle.std.proofs.lemmas.Bool.{eqb-true}
 use Rattle.std.proofs.lemmas.List.Elements.{All-contains_itself}
 use Rattle.std.proofs.lemmas.Option.{same_Some, slice_get_within}
+use Rattle.hp_base.specs.declared.chunk.Chunk.{Chunk}
 use Rattle.hp_base.specs.declared.row.Row.{Row}
-use Rattle.hp_plain.specs.HallView.{HallView, own_at}
+use Rattle.hp_heap.proofs.AllocFacts.ChoiceLaw.{Contains-here, Contains-none}
+use Rattle.hp_plain.specs.HallView.{HallView, own_at, part_in}
 use Rattle.hp_plain.specs.Keeping.{AreAgreed}
 use Rattle.hp_hall.specs.Own.{Own}
 use Rattle.hp_hall.proofs.Gives.{has_nothing}
@@ -28,7 +30,7 @@ use Rattle.hp_proc.specs.Ends.{IsMembersTable, IsTableOf}
 use Rattle.hp_proc.specs.LinesDone.{Course, courses_of, opening_standing, standing_after}
 use Rattle.hp_serve.specs.Party.{Party}
 use Rattle.hp_proc.specs.Seen.{HasTakenIn}
-use Rattle.hp_serve.specs.Tied.{HasTable, part_of, nothing_yet}
+use Rattle.hp_serve.specs.Tied.{HasChunks, HasTable, part_of, nothing_yet}
 use Rattle.hp_serve.proofs.RowsKnown.{has_lags}
 use Rattle.thm_run.specs.SoFar.{SoFar, first_hall, first_segs}
 use Rattle.thm_run.proofs.HallFacts.HallEnds.{are_segs, party_of}
@@ -69,6 +71,13 @@ none_of_both so (x ∷ xs) is other = absurd (by_case (so x) refl)
         sym (ap (λ (left : Bool). if not left then x ∷ filter (λ x. not (so x)) xs else filter (λ x. not (so x)) xs) case) ∙ other in
         cc
 
+-- where nothing is marked there is no row of a chunk
+none_marked : (marked : ℕ → List Chunk) (rows : List Row) → HasChunks marked rows → ((heap : ℕ) → marked heap ≡ []) → rows ≡ []
+none_marked marked [] has none = refl
+none_marked marked (row ∷ rows) has none =
+    let its = has.only row (Contains-here row rows) in
+    absurd (Contains-none its.1 (subst (λ (chunks : List Chunk). Contains chunks its.1) (none its.0) its.3))
+
 -- a table that has taken in nothing and has no chunk's rows has no row
 pub no_rows : (log : List LogRecord) (rows : List Row) → Lags log 0 0 (table_in rows) → chunk_rows rows ≡ [] → rows ≡ []
 no_rows log rows lags chunks = none_of_both is_of_log rows lags.left chunks
@@ -93,9 +102,12 @@ module _ (workload : Workload) (courses : List Course) (parties : List Party) (h
     records = (standing_after (opening_standing workload who) (courses_of who courses)).records
 
     -- its table is what the hall knows of it
-    has_table : HasTable segs.log (part_of party.joined own) party.maps
+    abbrev marked : ℕ → List Chunk
+    marked heap = (part_in hall who heap).marked
+
+    pub has_table : HasTable segs.log (part_of party.joined own) marked party.maps
     has_table =
-        subst (λ (log : List LogRecord). HasTable log (part_of party.joined own) party.maps) (log_is workload courses parties hall so)
+        subst (λ (log : List LogRecord). HasTable log (part_of party.joined own) marked party.maps) (log_is workload courses parties hall so)
         (so.each who party at).tied.table
 
     module _ (joined : party.joined ≡ true) where
@@ -119,8 +131,8 @@ module _ (workload : Workload) (courses : List Course) (parties : List Party) (h
           (row_granted segs (segs_sound workload courses parties hall so) place segment within settled) in
           taken_in found.element generation found.among (granted_so generation found.element.outcome found.passes)
 
-      its_own : HasTable segs.log own party.maps
-      its_own = subst (λ (joined : Bool). HasTable segs.log (part_of joined own) party.maps) joined has_table
+      its_own : HasTable segs.log own marked party.maps
+      its_own = subst (λ (joined : Bool). HasTable segs.log (part_of joined own) marked party.maps) joined has_table
 
       members_table : (table : Table) → LeavesTable party table → IsMembersTable segs who records table
       members_table table leaves =
@@ -129,21 +141,21 @@ module _ (workload : Workload) (courses : List Course) (parties : List Party) (h
             lags = subst (λ (rows : List Row). Lags segs.log table.number (length segs.log) (table_in rows)) (sym leaves.rows)
                 (subst (λ (number : ℕ). Lags segs.log number (length segs.log) (table_in party.maps.rows)) (sym number_is)
                 (lags_further segs.log own.number own.unmapped (length segs.log) (table_in party.maps.rows) its_own.seen
-                (has_lags segs.log own party.maps its_own)));
+                (has_lags segs.log own marked party.maps its_own)));
             since = omega (arith, leaves.number, (so.each who party at).since joined);
             own = all_from_contained (HasTakenIn who table.number) segs.asks (λ entry has mine.
                 if_there (λ (generation : ℕ). generation ≤ table.number) (granted_by entry.outcome) (λ generation grant.
                 omega (arith, number_is, taken_in entry generation has grant)));
             agreed = λ place segment within settled. omega (arith, number_is, row_taken_in place segment within settled);
-            no_other = ap chunk_rows leaves.rows ∙ its_own.chunks;
           }
 
     -- who is out has no table
     none_left : party.joined ≡ false → (table : Table) → LeavesTable party table → (table.number ≡ 0) × (table.rows.items ≡ [])
     none_left out table leaves =
-        let none : HasTable segs.log nothing_yet party.maps =
-        subst (λ (joined : Bool). HasTable segs.log (part_of joined own) party.maps) out has_table in
-        (leaves.number ∙ none.number, leaves.rows ∙ no_rows segs.log party.maps.rows (has_lags segs.log nothing_yet party.maps none) none.chunks)
+        let none : HasTable segs.log nothing_yet marked party.maps =
+        subst (λ (joined : Bool). HasTable segs.log (part_of joined own) marked party.maps) out has_table in
+        let bare : chunk_rows party.maps.rows ≡ [] = none_marked marked (chunk_rows party.maps.rows) none.chunks ((so.each who party at).left out) in
+        (leaves.number ∙ none.number, leaves.rows ∙ no_rows segs.log party.maps.rows (has_lags segs.log nothing_yet marked party.maps none) bare)
 
     table_by : (joined : Bool) (table : Table) → party.joined ≡ joined → LeavesTable party table → IsTableOf segs who records joined table
     table_by true table is leaves = members_table is table leaves

@@ -1,12 +1,17 @@
 -- What is done of a line is done so in its participant's own holds, where each of its asks takes the next number, nobody else's growth is open
 -- for its heap meanwhile, and it has its outcome at last.
-use Rattle.std.proofs.Common.{◌≡◌, ◌≢◌, ◌∙◌, ℕ, ◌+◌, ◌<◌, ◌≤◌, List, [], ◌∷◌, ◌++◌, length, None, Some, Option, IfSome, inl, inr, refl, ap, sym, subst, arith, append_assoc}
+use Rattle.std.proofs.Common.{◌≡◌, ◌≢◌, ◌∙◌, ℕ, ◌+◌, ◌<◌, ◌≤◌, List, [], ◌∷◌, ◌++◌, length, None, Some, Option, IfSome, inl, inr, refl, ap, sym, subst, arith, append-nil, append_assoc, Ok}
 use Rattle.std.specs.List.{All}
 use Rattle.std.proofs.lemmas.List.Elements.{All-head}
 use Rattle.hp_base.specs.declared.limits.TheConstants.{MAX_PARTICIPANTS}
 use Rattle.hp_base.specs.declared.row.Run.{Run}
-use Rattle.hp_hall.specs.Mail.{MailStep}
+use Rattle.hp_hall.specs.Mail.{Gives, MailStep}
+use Rattle.hp_hall.specs.declared.kept.Kept.TheVariants.{Names}
+use Rattle.hp_hall.specs.declared.slot.TheConstants.{NAMES_SLOT}
+use Rattle.hp_heap.specs.declared.entry.HeapAnswer.TheVariants as gives
+use Rattle.hp_heap.specs.declared.entry.HeapCall.TheVariants as call
 use Rattle.hp_heap.proofs.AllocFacts.ChoiceLaw.{Contains-cases}
+use Rattle.hp_segs.specs.Ranges.{range_plan}
 use Rattle.hp_segs.specs.SegsView.{SegsView}
 use Rattle.hp_segs.specs.LaterSteps.{armed_ask}
 use Rattle.hp_serve.specs.Asking.{ask_of}
@@ -17,11 +22,13 @@ use Rattle.hp_proc.specs.Acting.{Acts}
 use Rattle.hp_proc.specs.Courses.{numbered_in}
 use Rattle.hp_proc.specs.Denying.{denials_of}
 use Rattle.hp_proc.specs.Doing.{Done}
-use Rattle.hp_proc.specs.Doing.Done.{Asked, Called, CaughtUp, GaveUp, Looked, NamesRead, StatsRead}
+use Rattle.hp_proc.specs.Doing.Done.{Asked, Called, CaughtUp, ChunkMapped, GaveUp, HeapSeen, Looked, NamesChanged, NamesRead, RangePlanned, StatsRead}
 use Rattle.hp_proc.specs.Handing.{counted_in, shared_of}
 use Rattle.hp_proc.specs.Outcomes.{IsAnsweredSo}
 use Rattle.hp_proc.specs.ParticipantView.{ParticipantView}
+use Rattle.hp_proc.specs.SharedNames.NamesChange.{OfHeaps}
 use Rattle.hp_weave.specs.Holds.{Hold}
+use Rattle.hp_zone.specs.declared.name_change.NameChange.TheVariants.{Range, RangeGone}
 use Rattle.thm_run.proofs.InTurnByHolds.AsksInHolds.{IsAskedInHolds, all_last, all_front, all_stay, armed_good, ask_in_holds, asked_in}
 use Rattle.thm_run.proofs.GrownHeaps.GrowthsAlone.{IsAloneIn, growths_past, holds_alone, of_no_heap}
 use Rattle.thm_run.proofs.InTurnByHolds.HoldsLeft.{AreLeft, IsAnswered, answered_heard, answered_on, answered_then, none_own, one_left, pass_on}
@@ -81,7 +88,7 @@ growths_acts who (Acts.nothing hand doer) more along = along
 growths_acts {count} who (Acts.waits_turn until doer after moved steps turned) more along =
     growths_past who None steps more
     (of_no_heap steps (turn_none (denials_of doer.context.standing) count until doer.party after steps moved turned)) along
-growths_acts who (Acts.takes_heap doer heap pen) more along = along
+growths_acts who (Acts.takes_heap doer heap pen few) more along = along
 growths_acts who (Acts.gives_heap doer heap pen) more along = along
 growths_acts who (Acts.makes_call doer heap call answer uncut) more along = along
 growths_acts who (Acts.cuts_run doer heap addr run taken) more along = along.1.1
@@ -96,11 +103,23 @@ growths_acts {count} who (Acts.attaches doer after taken caught tried) more alon
     let gives : List MailStep = gives_segments (after_attaching doer.party.me caught taken) ∷ [] in
     growths_past who None (takes_segments taken ∷ (acks ++ gives)) more
     (of_no_heap (takes_segments taken ∷ (acks ++ gives)) (tt, none_both acks gives (acks_none caught (length taken.log)) (tt, tt))) along
-growths_acts who (Acts.detaches doer taken told above heard) more along = along.1.1
+growths_acts who (Acts.detaches doer taken told above left bare heard) more along = along.1.1
 growths_acts who (Acts.notes_left doer elements) more along = along
 growths_acts who (Acts.reads_names doer names) more along = along
 growths_acts who (Acts.looks_up_lines doer other lines) more along = along
 growths_acts who (Acts.reads_stats doer heap pair) more along = along
+growths_acts who (Acts.changes_names hand doer change) more along = along
+growths_acts who (Acts.holds_names held doer after taken given trace steps inner changes) more along =
+    let back : List MailStep = Gives NAMES_SLOT (Names given) ∷ [] in
+    growths_acts who inner (back ++ more) (subst (NoneElseGrowsAlong who None) (append_assoc steps back more) along)
+growths_acts who (Acts.sees_heap doer heap pen few) more along = along
+growths_acts who (Acts.looks_at_segs doer heap taken) more along = along.1.1
+growths_acts who (Acts.plans_range doer heap addr len page taken) more along = along.1.1
+growths_acts who (Acts.claims doer heap chunk taken plan) more along = along.1.1
+growths_acts who (Acts.releases doer heap chunk taken) more along = along.1.1
+growths_acts who (Acts.maps_chunk doer heap chunk after ended did) more along = along
+growths_acts who (Acts.shares doer heap chunk same) more along = along
+growths_acts who (Acts.leaves doer heap chunk after did) more along = along
 growths_acts {count} who (Acts.and_then hand between fin held held_more doer mid after first rest before behind one two) more along =
     growths_acts who two more
     (growths_acts who one (behind ++ more) (subst (NoneElseGrowsAlong who hand) (append_assoc before behind more) along))
@@ -190,8 +209,8 @@ module _ (count who : ℕ) (last : SegsView) where
         by_path number (Acts.nothing hand doer) me deadline seat none_at_all others from left was
     acts_on number (Acts.waits_turn until doer after moved steps turned) me deadline seat next exact answers more along others from left was =
         by_path number (Acts.waits_turn until doer after moved steps turned) me deadline seat none_at_all others from left was
-    acts_on number (Acts.takes_heap doer heap pen) me deadline seat next exact answers more along others from left was =
-        by_path number (Acts.takes_heap doer heap pen) me deadline seat none_at_all others from left was
+    acts_on number (Acts.takes_heap doer heap pen few) me deadline seat next exact answers more along others from left was =
+        by_path number (Acts.takes_heap doer heap pen few) me deadline seat none_at_all others from left was
     acts_on number (Acts.gives_heap doer heap pen) me deadline seat next exact answers more along others from left was =
         by_path number (Acts.gives_heap doer heap pen) me deadline seat none_at_all others from left was
     acts_on number (Acts.makes_call doer heap call answer uncut) me deadline seat next exact answers more along others from left was =
@@ -219,8 +238,8 @@ module _ (count who : ℕ) (last : SegsView) where
         by_path number (Acts.attaches doer after taken caught tried) me deadline seat
         (none_of (Looked (length taken.log)) (CaughtUp (length taken.log) caught ∷ []) (λ asked got same. cc)
         (none_of (CaughtUp (length taken.log) caught) [] (λ asked got same. cc) none_at_all)) others from left was
-    acts_on number (Acts.detaches doer taken told above heard) me deadline seat next exact answers more along others from left was =
-        by_path number (Acts.detaches doer taken told above heard) me deadline seat none_at_all others from left was
+    acts_on number (Acts.detaches doer taken told above left bare heard) me deadline seat next exact answers more along others from left was =
+        by_path number (Acts.detaches doer taken told above left bare heard) me deadline seat none_at_all others from left was
     acts_on number (Acts.notes_left doer elements) me deadline seat next exact answers more along others from left was =
         by_path number (Acts.notes_left doer elements) me deadline seat none_at_all others from left was
     acts_on number (Acts.reads_names doer names) me deadline seat next exact answers more along others from left was =
@@ -231,6 +250,49 @@ module _ (count who : ℕ) (last : SegsView) where
     acts_on number (Acts.reads_stats doer heap pair) me deadline seat next exact answers more along others from left was =
         by_path number (Acts.reads_stats doer heap pair) me deadline seat
         (none_of (StatsRead heap (counted_in pair)) [] (λ asked got same. cc) none_at_all) others from left was
+    acts_on number (Acts.changes_names hand doer change) me deadline seat next exact answers more along others from left was =
+        by_path number (Acts.changes_names hand doer change) me deadline seat
+        (none_of (NamesChanged change) [] (λ asked got same. cc) none_at_all) others from left was
+    acts_on number (Acts.sees_heap doer heap pen few) me deadline seat next exact answers more along others from left was =
+        by_path number (Acts.sees_heap doer heap pen few) me deadline seat
+        (none_of (HeapSeen heap.plain.index heap.history) [] (λ asked got same. cc) none_at_all) others from left was
+    acts_on number (Acts.looks_at_segs doer heap taken) me deadline seat next exact answers more along others from left was =
+        by_path number (Acts.looks_at_segs doer heap taken) me deadline seat none_at_all others from left was
+    acts_on number (Acts.plans_range doer heap addr len page taken) me deadline seat next exact answers more along others from left was =
+        by_path number (Acts.plans_range doer heap addr len page taken) me deadline seat
+        (none_of (RangePlanned addr len page (range_plan addr len page taken)) [] (λ asked got same. cc) none_at_all) others from left was
+    acts_on number (Acts.claims doer heap chunk taken plan) me deadline seat next exact answers more along others from left was =
+        by_path number (Acts.claims doer heap chunk taken plan) me deadline seat
+        (none_of (RangePlanned chunk.addr chunk.len chunk.page (Ok chunk.list)) (NamesChanged (OfHeaps (Range heap chunk.addr chunk.len chunk.page)) ∷ Called heap (call.Chunk chunk) gives.Done ∷ []) (λ asked got same. cc) (none_of (NamesChanged (OfHeaps (Range heap chunk.addr chunk.len chunk.page))) (Called heap (call.Chunk chunk) gives.Done ∷ []) (λ asked got same. cc) (none_of (Called heap (call.Chunk chunk) gives.Done) [] (λ asked got same. cc) none_at_all))) others from left was
+    acts_on number (Acts.releases doer heap chunk taken) me deadline seat next exact answers more along others from left was =
+        by_path number (Acts.releases doer heap chunk taken) me deadline seat
+        (none_of (NamesChanged (OfHeaps (RangeGone heap chunk.addr))) (Called heap (call.Unchunk chunk.addr chunk.len) gives.Done ∷ []) (λ asked got same. cc) (none_of (Called heap (call.Unchunk chunk.addr chunk.len) gives.Done) [] (λ asked got same. cc) none_at_all)) others from left was
+    acts_on number (Acts.maps_chunk doer heap chunk after ended did) me deadline seat next exact answers more along others from left was =
+        by_path number (Acts.maps_chunk doer heap chunk after ended did) me deadline seat
+        (none_of (ChunkMapped chunk ended) [] (λ asked got same. cc) none_at_all) others from left was
+    acts_on number (Acts.shares doer heap chunk same) me deadline seat next exact answers more along others from left was =
+        by_path number (Acts.shares doer heap chunk same) me deadline seat
+        (none_of (Called heap (call.Share chunk.addr chunk.len) gives.Done) [] (λ asked got same. cc) none_at_all) others from left was
+    acts_on number (Acts.leaves doer heap chunk after did) me deadline seat next exact answers more along others from left was =
+        by_path number (Acts.leaves doer heap chunk after did) me deadline seat
+        (none_of (Called heap (call.Unshare chunk.addr chunk.len) gives.Done) [] (λ asked got same. cc) none_at_all) others from left was
+    acts_on number (Acts.holds_names held doer after taken given trace steps inner changes) me deadline seat next exact answers more along
+        others from left was =
+        let begins = acting_path count who None None held doer after trace steps inner me deadline seat in
+        let back : List MailStep = Gives NAMES_SLOT (Names given) ∷ [] in
+        let holds : List (Hold SegsView) = holds_from who None steps in
+        let all : holds_from who None (steps ++ back) ≡ holds = holds_then back begins.path ∙ append-nil holds in
+        let here =
+        acts_on number inner me deadline seat next exact answers (back ++ more)
+        (subst (NoneElseGrowsAlong who None) (append_assoc steps back more) along) others from
+        (subst (λ holds. AreLeft who last (holds ++ others) from) all left) was in
+        record {
+          does = subst (DoesInHolds who number (NamesRead (shared_of taken) ∷ trace)) (sym all)
+              (DoesInHolds.reads_names number (shared_of taken) trace holds here.does);
+          to = here.to;
+          left = here.left;
+          answered = here.answered;
+        }
     acts_on number (Acts.and_then hand between fin held held_more doer mid after first rest before behind one two) me deadline seat next exact
         answers more along others from left was =
         let begins = acting_path count who hand between held doer mid first before one me deadline seat in

@@ -129,6 +129,14 @@ module _ (who : ℕ) (last : SegsView) where
       one_on number trace holds does from all chain each own place at
   one_on _ _ _ (DoesInHolds.reads_stats number heap counted trace holds does) from all chain each own place at =
       one_on number trace holds does from all chain each own place at
+  one_on _ _ _ (DoesInHolds.changes_names number change trace holds does) from all chain each own place at =
+      one_on number trace holds does from all chain each own place at
+  one_on _ _ _ (DoesInHolds.sees_heap number heap history trace holds does) from all chain each own place at =
+      one_on number trace holds does from all chain each own place at
+  one_on _ _ _ (DoesInHolds.plans_range number addr len page plan trace holds does) from all chain each own place at =
+      one_on number trace holds does from all chain each own place at
+  one_on _ _ _ (DoesInHolds.maps_chunk number chunk ended trace holds does) from all chain each own place at =
+      one_on number trace holds does from all chain each own place at
   one_on _ _ _ (DoesInHolds.catches_up number to caught trace holds does) from all chain each own place at =
       one_on number trace holds does from all chain each own place at
 
@@ -218,6 +226,14 @@ module _ (who : ℕ) (last : SegsView) where
   two_on _ _ _ (DoesInHolds.reads_names number names trace holds does) from all chain each own place other less at later =
       two_on number trace holds does from all chain each own place other less at later
   two_on _ _ _ (DoesInHolds.reads_stats number heap counted trace holds does) from all chain each own place other less at later =
+      two_on number trace holds does from all chain each own place other less at later
+  two_on _ _ _ (DoesInHolds.changes_names number change trace holds does) from all chain each own place other less at later =
+      two_on number trace holds does from all chain each own place other less at later
+  two_on _ _ _ (DoesInHolds.sees_heap number heap history trace holds does) from all chain each own place other less at later =
+      two_on number trace holds does from all chain each own place other less at later
+  two_on _ _ _ (DoesInHolds.plans_range number addr len page plan trace holds does) from all chain each own place other less at later =
+      two_on number trace holds does from all chain each own place other less at later
+  two_on _ _ _ (DoesInHolds.maps_chunk number chunk ended trace holds does) from all chain each own place other less at later =
       two_on number trace holds does from all chain each own place other less at later
   two_on _ _ _ (DoesInHolds.catches_up number to caught trace holds does) from all chain each own place other less at later =
       two_on number trace holds does from all chain each own place other less at later

@@ -28,7 +28,7 @@ use Rattle.hp_serve.specs.Waiting.{IsWaited}
 use Rattle.hp_serve.specs.declared.pages_asked.PagesAsked.{PagesAsked}
 use Rattle.hp_proc.specs.Outcomes.{IsAnsweredSo}
 use Rattle.hp_proc.specs.Doing.{Done}
-use Rattle.hp_proc.specs.Doing.Done.{Asked, Called, CaughtUp, GaveUp, Looked, NamesRead, StatsRead}
+use Rattle.hp_proc.specs.Doing.Done.{Asked, Called, CaughtUp, ChunkMapped, GaveUp, HeapSeen, Looked, NamesChanged, NamesRead, RangePlanned, StatsRead}
 use Rattle.hp_weave.specs.Holds.{Hold}
 use Rattle.thm_run.proofs.InTurnByHolds.HoldsOfPaths.{AsksNone, done_in_holds, holds_then, none_at_all, rest_none}
 use Rattle.thm_run.proofs.Leaving.{claim_leaves, withdraw_leaves}
@@ -56,6 +56,14 @@ all_stay (DoesInHolds.reads_names number names trace holds does) none =
     all_stay does (rest_none (NamesRead names ∷ []) trace none)
 all_stay (DoesInHolds.reads_stats number heap counted trace holds does) none =
     all_stay does (rest_none (StatsRead heap counted ∷ []) trace none)
+all_stay (DoesInHolds.changes_names number change trace holds does) none =
+    all_stay does (rest_none (NamesChanged change ∷ []) trace none)
+all_stay (DoesInHolds.sees_heap number heap history trace holds does) none =
+    all_stay does (rest_none (HeapSeen heap history ∷ []) trace none)
+all_stay (DoesInHolds.plans_range number addr len page plan trace holds does) none =
+    all_stay does (rest_none (RangePlanned addr len page plan ∷ []) trace none)
+all_stay (DoesInHolds.maps_chunk number chunk ended trace holds does) none =
+    all_stay does (rest_none (ChunkMapped chunk ended ∷ []) trace none)
 all_stay (DoesInHolds.catches_up number to caught trace holds does) none =
     all_stay does (rest_none (CaughtUp to caught ∷ []) trace none)
 

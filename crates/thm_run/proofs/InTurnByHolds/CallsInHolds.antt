@@ -6,6 +6,7 @@ use Rattle.std.proofs.lemmas.List.{drop_at}
 use Rattle.std.proofs.lemmas.List.Elements.{All-head}
 use Rattle.hp_hall.specs.Mail.{Fetches, Gives, MailStep, Notes, Posts, Takes}
 use Rattle.hp_hall.specs.declared.kept.Kept.TheVariants.{Heap, Names, Segments}
+use Rattle.hp_hall.specs.declared.slot.TheConstants.{NAMES_SLOT}
 use Rattle.hp_heap.proofs.HistoryFacts.Counting.{count_by-cons}
 use Rattle.hp_heap.specs.History.{HeapView}
 use Rattle.hp_heap.specs.declared.entry.Entry.{Entry}
@@ -83,7 +84,7 @@ acts_take : {count : ℕ} {hand fin : Option ℕ} {held : List ℕ} {doer after 
 acts_take (Acts.nothing hand doer) heap = refl
 acts_take {count} (Acts.waits_turn until doer after moved steps turned) heap =
     takes_none heap steps (turn_none (denials_of doer.context.standing) count until doer.party after steps moved turned)
-acts_take (Acts.takes_heap doer taken pen) heap = refl
+acts_take (Acts.takes_heap doer taken pen few) heap = refl
 acts_take (Acts.gives_heap doer given pen) heap = refl
 acts_take (Acts.makes_call doer its call answer uncut) heap = refl
 acts_take (Acts.cuts_run doer its addr run taken) heap = refl
@@ -95,11 +96,22 @@ acts_take (Acts.attaches doer after taken caught tried) heap =
     let acks : List MailStep = acks_after caught (length taken.log) in
     let gives : List MailStep = gives_segments (after_attaching doer.party.me caught taken) ∷ [] in
     takes_none heap (takes_segments taken ∷ (acks ++ gives)) (tt, none_both acks gives (acks_none caught (length taken.log)) (tt, tt))
-acts_take (Acts.detaches doer taken told above heard) heap = refl
+acts_take (Acts.detaches doer taken told above left bare heard) heap = refl
 acts_take (Acts.notes_left doer elements) heap = refl
 acts_take (Acts.reads_names doer names) heap = refl
 acts_take (Acts.looks_up_lines doer other lines) heap = refl
 acts_take (Acts.reads_stats doer its pair) heap = refl
+acts_take (Acts.changes_names hand doer change) heap = refl
+acts_take (Acts.holds_names held doer after taken given trace steps inner changes) heap =
+    omega (arith, takes_both heap steps (Gives NAMES_SLOT (Names given) ∷ []), acts_take inner heap)
+acts_take (Acts.sees_heap doer seen pen few) heap = refl
+acts_take (Acts.looks_at_segs doer its taken) heap = refl
+acts_take (Acts.plans_range doer its addr len page taken) heap = refl
+acts_take (Acts.claims doer its chunk taken plan) heap = refl
+acts_take (Acts.releases doer its chunk taken) heap = refl
+acts_take (Acts.maps_chunk doer its chunk after ended did) heap = refl
+acts_take (Acts.shares doer its chunk same) heap = refl
+acts_take (Acts.leaves doer its chunk after did) heap = refl
 acts_take (Acts.and_then hand between fin held more doer mid after first rest before behind one two) heap =
     omega (arith, takes_both heap before behind, times_both heap held more, acts_take one heap, acts_take two heap)
 

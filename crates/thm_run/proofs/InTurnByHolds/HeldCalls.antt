@@ -21,11 +21,11 @@ of_hand heap call own is among =
 
 module _ (count : ℕ) where
   -- a heap in hand was so before, or was taken
-  hand_held : {hand last : Option ℕ} {held : List ℕ} {doer after : ParticipantView} {trace : List Done} {steps : List MailStep}
+  pub hand_held : {hand last : Option ℕ} {held : List ℕ} {doer after : ParticipantView} {trace : List Done} {steps : List MailStep}
       → Acts count hand last held doer after trace steps → (heap : ℕ) → last ≡ Some heap → (hand ≡ Some heap) ⊎ Contains held heap
   hand_held (Acts.nothing hand doer) heap is = inl is
   hand_held (Acts.waits_turn until doer after moved steps turned) heap is = inl is
-  hand_held (Acts.takes_heap doer taken pen) heap is =
+  hand_held (Acts.takes_heap doer taken pen few) heap is =
       let same : taken.plain.index ≡ heap = cc in
       inr (subst (Contains (taken.plain.index ∷ [])) same (Contains-here taken.plain.index []))
   hand_held (Acts.gives_heap doer given pen) heap is = cc
@@ -34,11 +34,23 @@ module _ (count : ℕ) where
   hand_held (Acts.asks_pages doer after asked run steps does) heap is = inl is
   hand_held (Acts.notifies_run doer after its run steps does) heap is = inl is
   hand_held (Acts.attaches doer after taken caught tried) heap is = inl is
-  hand_held (Acts.detaches doer taken told some heard) heap is = inl is
+  hand_held (Acts.detaches doer taken told some left bare heard) heap is = inl is
   hand_held (Acts.notes_left doer elements) heap is = inl is
   hand_held (Acts.reads_names doer names) heap is = inl is
   hand_held (Acts.looks_up_lines doer other lines) heap is = inl is
   hand_held (Acts.reads_stats doer its pair) heap is = inl is
+  hand_held (Acts.changes_names hand doer change) heap is = inl is
+  hand_held (Acts.holds_names held doer after taken given trace steps inner changes) heap is = hand_held inner heap is
+  hand_held (Acts.sees_heap doer taken pen few) heap is =
+      let same : taken.plain.index ≡ heap = cc in
+      inr (subst (Contains (taken.plain.index ∷ [])) same (Contains-here taken.plain.index []))
+  hand_held (Acts.looks_at_segs doer its taken) heap is = inl is
+  hand_held (Acts.plans_range doer its addr len page taken) heap is = inl is
+  hand_held (Acts.claims doer its chunk taken plan) heap is = inl is
+  hand_held (Acts.releases doer its chunk taken) heap is = inl is
+  hand_held (Acts.maps_chunk doer its chunk after ended did) heap is = inl is
+  hand_held (Acts.shares doer its chunk same) heap is = inl is
+  hand_held (Acts.leaves doer its chunk after did) heap is = inl is
   hand_held (Acts.and_then hand between last held more doer mid after first rest before behind one two) heap is =
       elim (hand_held two heap is) [
         | inl earlier ↦ elim (hand_held one heap earlier) [
@@ -49,12 +61,12 @@ module _ (count : ℕ) where
       ]
 
   -- a heap that is called is in hand, or was taken
-  calls_held : {hand last : Option ℕ} {held : List ℕ} {doer after : ParticipantView} {trace : List Done} {steps : List MailStep}
+  pub calls_held : {hand last : Option ℕ} {held : List ℕ} {doer after : ParticipantView} {trace : List Done} {steps : List MailStep}
       → Acts count hand last held doer after trace steps → (own : OwnCall) → Contains (calls_in trace) own
       → (hand ≡ Some own.heap) ⊎ Contains held own.heap
   calls_held (Acts.nothing hand doer) own among = absurd (Contains-none own among)
   calls_held (Acts.waits_turn until doer after moved steps turned) own among = absurd (Contains-none own among)
-  calls_held (Acts.takes_heap doer taken pen) own among = absurd (Contains-none own among)
+  calls_held (Acts.takes_heap doer taken pen few) own among = absurd (Contains-none own among)
   calls_held (Acts.gives_heap doer given pen) own among = absurd (Contains-none own among)
   calls_held (Acts.makes_call doer its call answer none) own among =
       inl (of_hand its (record { heap = its; call = call; answer = answer }) own refl among)
@@ -63,11 +75,25 @@ module _ (count : ℕ) where
   calls_held (Acts.asks_pages doer after asked run steps does) own among = absurd (Contains-none own among)
   calls_held (Acts.notifies_run doer after its run steps does) own among = absurd (Contains-none own among)
   calls_held (Acts.attaches doer after taken caught tried) own among = absurd (Contains-none own among)
-  calls_held (Acts.detaches doer taken told some heard) own among = absurd (Contains-none own among)
+  calls_held (Acts.detaches doer taken told some left bare heard) own among = absurd (Contains-none own among)
   calls_held (Acts.notes_left doer elements) own among = absurd (Contains-none own among)
   calls_held (Acts.reads_names doer names) own among = absurd (Contains-none own among)
   calls_held (Acts.looks_up_lines doer other lines) own among = absurd (Contains-none own among)
   calls_held (Acts.reads_stats doer its pair) own among = absurd (Contains-none own among)
+  calls_held (Acts.changes_names hand doer change) own among = absurd (Contains-none own among)
+  calls_held (Acts.holds_names held doer after taken given trace steps inner changes) own among = calls_held inner own among
+  calls_held (Acts.sees_heap doer taken pen few) own among = absurd (Contains-none own among)
+  calls_held (Acts.looks_at_segs doer its taken) own among = absurd (Contains-none own among)
+  calls_held (Acts.plans_range doer its addr len page taken) own among = absurd (Contains-none own among)
+  calls_held (Acts.claims doer its chunk taken plan) own among =
+      inl (of_hand its (record { heap = its; call = _; answer = _ }) own refl among)
+  calls_held (Acts.releases doer its chunk taken) own among =
+      inl (of_hand its (record { heap = its; call = _; answer = _ }) own refl among)
+  calls_held (Acts.maps_chunk doer its chunk after ended did) own among = absurd (Contains-none own among)
+  calls_held (Acts.shares doer its chunk same) own among =
+      inl (of_hand its (record { heap = its; call = _; answer = _ }) own refl among)
+  calls_held (Acts.leaves doer its chunk after did) own among =
+      inl (of_hand its (record { heap = its; call = _; answer = _ }) own refl among)
   calls_held (Acts.and_then hand between last held more doer mid after first rest before behind one two) own among =
       elim (Contains-append_cases (calls_in first) (calls_in rest) own (subst (λ calls. Contains calls own) (calls_on first rest) among)) [
         | inl early ↦ elim (calls_held one own early) [
@@ -84,7 +110,7 @@ module _ (count : ℕ) where
       ]
 
 -- of a heap that no call is of there is no entry
-none_for : (who heap number : ℕ) (calls : List OwnCall) → ((own : OwnCall) → Contains calls own → own.heap ≡ heap → ⊥)
+pub none_for : (who heap number : ℕ) (calls : List OwnCall) → ((own : OwnCall) → Contains calls own → own.heap ≡ heap → ⊥)
     → entries_for who heap number calls ≡ []
 none_for who heap number [] none = refl
 none_for who heap number (own ∷ calls) none =

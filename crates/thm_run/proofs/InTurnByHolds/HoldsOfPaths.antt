@@ -15,7 +15,7 @@ use Rattle.hp_serve.specs.Serving.{gives_segments}
 use Rattle.hp_serve.specs.declared.pages_asked.PagesAsked.{PagesAsked}
 use Rattle.hp_proc.specs.Courses.{numbered_in}
 use Rattle.hp_proc.specs.Doing.{Done}
-use Rattle.hp_proc.specs.Doing.Done.{Asked, Called, CaughtUp, GaveUp, Looked, NamesRead, StatsRead}
+use Rattle.hp_proc.specs.Doing.Done.{Asked, Called, CaughtUp, ChunkMapped, GaveUp, HeapSeen, Looked, NamesChanged, NamesRead, RangePlanned, StatsRead}
 use Rattle.hp_weave.specs.Holds.{Hold}
 use Rattle.thm_run.proofs.SeatFacts.LogAlong.{core_logged}
 use Rattle.thm_run.proofs.Following.{attaching_leaves, catching_leaves}
@@ -23,7 +23,7 @@ use Rattle.thm_run.proofs.Leaving.{claim_leaves, withdraw_leaves}
 use Rattle.thm_run.proofs.PathSteps.Apart.{heap_skipped, mail_skipped, notes_skipped}
 use Rattle.thm_run.specs.Apart.{holds_from}
 use Rattle.thm_run.specs.OwnHolds.{DoesInHolds, StaysArmed}
-use Rattle.thm_run.specs.Seats.{Handles, Mails, SeatTrace, Quietly, Seat}
+use Rattle.thm_run.specs.Seats.{Handles, Mails, SeatTrace, Quietly, Seat, with_ranges}
 
 -- HOLDS ALONG A PATH
 
@@ -70,6 +70,14 @@ module _ (who next : ℕ) (rest : List Done) (late : List (Hold SegsView)) (furt
       DoesInHolds.reads_names number names (trace ++ rest) (holds ++ late) (does_then does at)
   does_then (DoesInHolds.reads_stats number heap counted trace holds does) at =
       DoesInHolds.reads_stats number heap counted (trace ++ rest) (holds ++ late) (does_then does at)
+  does_then (DoesInHolds.changes_names number change trace holds does) at =
+      DoesInHolds.changes_names number change (trace ++ rest) (holds ++ late) (does_then does at)
+  does_then (DoesInHolds.sees_heap number heap history trace holds does) at =
+      DoesInHolds.sees_heap number heap history (trace ++ rest) (holds ++ late) (does_then does at)
+  does_then (DoesInHolds.plans_range number addr len page plan trace holds does) at =
+      DoesInHolds.plans_range number addr len page plan (trace ++ rest) (holds ++ late) (does_then does at)
+  does_then (DoesInHolds.maps_chunk number chunk ended trace holds does) at =
+      DoesInHolds.maps_chunk number chunk ended (trace ++ rest) (holds ++ late) (does_then does at)
   does_then (DoesInHolds.catches_up number to caught trace holds does) at =
       DoesInHolds.catches_up number to caught (trace ++ rest) (holds ++ late) (does_then does at)
 
@@ -114,7 +122,7 @@ module _ (who : ℕ) where
         DoesInHolds.calls number heap call answer rest.more _
         (rest.does number (rest_none (Called heap call answer ∷ []) rest.more asks));
   }
-  quietly_then (Quietly.notes seat elements) rest = record { more = rest.more; trace = rest.trace; does = rest.does }
+  quietly_then (Quietly.notes seat elements chunks) rest = record { more = rest.more; trace = rest.trace; does = rest.does }
   quietly_then (Quietly.reads_names seat names) rest = record {
     more = NamesRead names ∷ rest.more;
     trace = adds_then seat.trace (NamesRead names ∷ []) rest.more _ rest.trace;
@@ -129,6 +137,35 @@ module _ (who : ℕ) where
         DoesInHolds.reads_stats number heap counted rest.more _
         (rest.does number (rest_none (StatsRead heap counted ∷ []) rest.more asks));
   }
+  quietly_then (Quietly.changes_names seat change) rest = record {
+    more = NamesChanged change ∷ rest.more;
+    trace = adds_then seat.trace (NamesChanged change ∷ []) rest.more _ rest.trace;
+    does = λ number asks.
+        DoesInHolds.changes_names number change rest.more _
+        (rest.does number (rest_none (NamesChanged change ∷ []) rest.more asks));
+  }
+  quietly_then (Quietly.sees_heap seat heap history) rest = record {
+    more = HeapSeen heap history ∷ rest.more;
+    trace = adds_then seat.trace (HeapSeen heap history ∷ []) rest.more _ rest.trace;
+    does = λ number asks.
+        DoesInHolds.sees_heap number heap history rest.more _
+        (rest.does number (rest_none (HeapSeen heap history ∷ []) rest.more asks));
+  }
+  quietly_then (Quietly.plans_range seat addr len page plan) rest = record {
+    more = RangePlanned addr len page plan ∷ rest.more;
+    trace = adds_then seat.trace (RangePlanned addr len page plan ∷ []) rest.more _ rest.trace;
+    does = λ number asks.
+        DoesInHolds.plans_range number addr len page plan rest.more _
+        (rest.does number (rest_none (RangePlanned addr len page plan ∷ []) rest.more asks));
+  }
+  quietly_then (Quietly.maps_chunk seat chunk maps ended is) rest = record {
+    more = ChunkMapped chunk ended ∷ rest.more;
+    trace = adds_then seat.trace (ChunkMapped chunk ended ∷ []) rest.more _ rest.trace;
+    does = λ number asks.
+        DoesInHolds.maps_chunk number chunk ended rest.more _
+        (rest.does number (rest_none (ChunkMapped chunk ended ∷ []) rest.more asks));
+  }
+  quietly_then (Quietly.leaves_chunk seat chunk maps is) rest = record { more = rest.more; trace = rest.trace; does = rest.does }
   quietly_then (Quietly.ends_line seat deed given) rest = record { more = rest.more; trace = rest.trace; does = rest.does }
 
   mails_then : {old mid new : Seat} {step : MailStep} {holds : List (Hold SegsView)} → Mails who old mid step
@@ -159,6 +196,7 @@ module _ (who : ℕ) where
   handles_then : {count : ℕ} {old mid new : Seat} {taken given : SegsView} {holds : List (Hold SegsView)} → Handles count who old mid taken given
       → HasArmedGrowth taken → IsDoneInHolds who mid new holds → IsDoneInHolds who old new (held_by who taken given ∷ holds)
   handles_then (Handles.looks seat segs) growth rest = passes_then segs segs refl refl rest
+  handles_then (Handles.moves_ranges seat segs ranges moves) growth rest = passes_then segs (with_ranges ranges segs) refl refl rest
   handles_then (Handles.steps seat segs event core zero its knows denied may) growth rest =
       passes_then segs _ refl (ap (λ armed. slice_index_or armed who None) (core_logged denied event core segs growth).armed) rest
   handles_then (Handles.maps seat segs caught table now core zero its up) growth rest =
@@ -196,7 +234,7 @@ module _ (who : ℕ) where
             (ap (λ armed. slice_index_or armed who None) (attaching_leaves who caught segs).armed)
             (DoesInHolds.catches_up number (length segs.log) caught rest.more _ (rest.does number (rest_none looked rest.more asks)));
       }
-  handles_then (Handles.detaches seat segs told secondary heard) growth rest = passes_then segs _ refl refl rest
+  handles_then (Handles.detaches seat segs told secondary none heard) growth rest = passes_then segs _ refl refl rest
 
   -- along a path
   done_along : {count : ℕ} {old new : Seat} {steps : List MailStep} → SeatTrace count who old new steps

@@ -29,13 +29,14 @@ use Rattle.thm_run.proofs.Leaving.{claim_leaves, withdraw_leaves}
 use Rattle.thm_run.proofs.SeatFacts.LogAlong.{core_logged}
 use Rattle.thm_run.specs.Apart.{IsDeed}
 use Rattle.thm_run.specs.OwnHolds.{HasLater, HoldsGoOn}
-use Rattle.thm_run.specs.Seats.{Handles, Seat}
+use Rattle.thm_run.specs.Seats.{Handles, Seat, with_ranges}
 
 -- WHO IS ARMED
 
 pub others_armed : {count who : ℕ} {old new : Seat} {taken given : SegsView} → Handles count who old new taken given → HasArmedGrowth taken
     → (other : ℕ) → other ≢ who → armed_ask given other ≡ armed_ask taken other
 others_armed (Handles.looks seat segs) growth other apart = refl
+others_armed (Handles.moves_ranges seat segs ranges moves) growth other apart = refl
 others_armed (Handles.steps seat segs event core zero its knows denied may) growth other apart =
     ap (λ armed. slice_index_or armed other None) (core_logged denied event core segs growth).armed
 others_armed (Handles.maps seat segs caught table now core zero its up) growth other apart =
@@ -53,7 +54,7 @@ others_armed {count} {who} (Handles.settles seat segs since now late) growth oth
 others_armed (Handles.cuts seat segs heap addr run) growth other apart = refl
 others_armed {count} {who} (Handles.attaches seat segs caught after tried) growth other apart =
     ap (λ armed. slice_index_or armed other None) (attaching_leaves who caught segs).armed
-others_armed (Handles.detaches seat segs told secondary heard) growth other apart = refl
+others_armed (Handles.detaches seat segs told secondary none heard) growth other apart = refl
 
 -- WHAT IS ANSWERED
 
@@ -96,6 +97,7 @@ answers_same old mid new same answers entry ask among is =
 pub answers_armed : {count who : ℕ} {old new : Seat} {taken given : SegsView} → Handles count who old new taken given → HasArmedGrowth taken
     → AnswersOfArmed taken given
 answers_armed (Handles.looks seat segs) growth = answers_none segs segs refl
+answers_armed (Handles.moves_ranges seat segs ranges moves) growth = answers_none segs (with_ranges ranges segs) refl
 answers_armed (Handles.steps seat segs event core zero its knows denied may) growth =
     steps_answer_armed (λ socket total. denied) event core (with_room segs) growth
 answers_armed (Handles.maps seat segs caught table now core zero its up) growth =
@@ -113,7 +115,7 @@ answers_armed {count} {who} (Handles.settles seat segs since now late) growth =
 answers_armed (Handles.cuts seat segs heap addr run) growth = answers_none segs (after_retire heap run segs) refl
 answers_armed {count} {who} (Handles.attaches seat segs caught after tried) growth =
     answers_none segs (after_attaching who caught segs) (attaching_leaves who caught segs).asks
-answers_armed {count} {who} (Handles.detaches seat segs told secondary heard) growth = answers_none segs (after_leave who segs) refl
+answers_armed {count} {who} (Handles.detaches seat segs told secondary none heard) growth = answers_none segs (after_leave who segs) refl
 
 -- ALL HOLDS
 

@@ -33,7 +33,7 @@ use Rattle.thm_run.specs.Seats.{EndedLine, SeatTrace, Seat}
 -- FROM A SEAT
 
 pub line_in_seat : LineInSeat
-line_in_seat count held doer mid course steps seat acts once deadline party standing leaves =
+line_in_seat count held doer mid course steps seat acts once names awaited deadline party standing leaves =
     let deed = course.line.act in
     let comes =
     line_path count doer.party.me held doer mid deed course.answer course.trace steps acts refl deadline seat party standing in
@@ -51,6 +51,8 @@ line_in_seat count held doer mid course steps seat acts once deadline party stan
         held = held;
         once = once;
         acts = acts;
+        names = names;
+        awaited = awaited;
         path = comes.path;
         trace = comes.trace;
         lines = comes.lines

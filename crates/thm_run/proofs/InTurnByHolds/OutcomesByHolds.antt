@@ -102,6 +102,10 @@ arms_own who _ _ _ (DoesInHolds.gives_up number heap run trace holds does) =
 arms_own who _ _ _ (DoesInHolds.calls number heap call answer trace holds does) = arms_own who number trace holds does
 arms_own who _ _ _ (DoesInHolds.reads_names number names trace holds does) = arms_own who number trace holds does
 arms_own who _ _ _ (DoesInHolds.reads_stats number heap counted trace holds does) = arms_own who number trace holds does
+arms_own who _ _ _ (DoesInHolds.changes_names number change trace holds does) = arms_own who number trace holds does
+arms_own who _ _ _ (DoesInHolds.sees_heap number heap history trace holds does) = arms_own who number trace holds does
+arms_own who _ _ _ (DoesInHolds.plans_range number addr len page plan trace holds does) = arms_own who number trace holds does
+arms_own who _ _ _ (DoesInHolds.maps_chunk number chunk ended trace holds does) = arms_own who number trace holds does
 arms_own who _ _ _ (DoesInHolds.catches_up number to caught trace holds does) = arms_own who number trace holds does
 
 -- what holds of each participant's holds holds of all

@@ -57,9 +57,14 @@ module _ (validators : List (Validator Bool)) (before ended : List EndedLine) (l
   quietly_judging (Quietly.hears seat answered) was rest front = record { more = was.more; lines = was.lines; its = was.its }
   quietly_judging (Quietly.counts seat sent) was rest front = record { more = was.more; lines = was.lines; its = was.its }
   quietly_judging (Quietly.calls seat heap call answer none) was rest front = record { more = was.more; lines = was.lines; its = was.its }
-  quietly_judging (Quietly.notes seat elements) was rest front = record { more = was.more; lines = was.lines; its = was.its }
+  quietly_judging (Quietly.notes seat elements chunks) was rest front = record { more = was.more; lines = was.lines; its = was.its }
   quietly_judging (Quietly.reads_names seat names) was rest front = record { more = was.more; lines = was.lines; its = was.its }
   quietly_judging (Quietly.reads_stats seat heap counted) was rest front = record { more = was.more; lines = was.lines; its = was.its }
+  quietly_judging (Quietly.changes_names seat change) was rest front = record { more = was.more; lines = was.lines; its = was.its }
+  quietly_judging (Quietly.sees_heap seat heap history) was rest front = record { more = was.more; lines = was.lines; its = was.its }
+  quietly_judging (Quietly.plans_range seat addr len page plan) was rest front = record { more = was.more; lines = was.lines; its = was.its }
+  quietly_judging (Quietly.maps_chunk seat chunk maps ended is) was rest front = record { more = was.more; lines = was.lines; its = was.its }
+  quietly_judging (Quietly.leaves_chunk seat chunk maps is) was rest front = record { more = was.more; lines = was.lines; its = was.its }
   quietly_judging (Quietly.ends_line seat deed given) was rest front =
       let one : EndedLine = line_ended deed given seat in
       record {
@@ -79,6 +84,7 @@ module _ (validators : List (Validator Bool)) (before ended : List EndedLine) (l
   handles_judging : {count who : ℕ} {old new : Seat} {taken given : SegsView} → Handles count who old new taken given → IsJudging old
       → IsJudging new
   handles_judging (Handles.looks seat segs) was = was
+  handles_judging (Handles.moves_ranges seat segs ranges moves) was = was
   handles_judging (Handles.steps seat segs event core is its knows denied may) was = record { more = was.more; lines = was.lines; its = was.its }
   handles_judging (Handles.maps seat segs caught table now core is its caught_up) was =
       record { more = was.more; lines = was.lines; its = was.its }
@@ -92,7 +98,7 @@ module _ (validators : List (Validator Bool)) (before ended : List EndedLine) (l
     lines = was.lines;
     its = tried_validators (length segs.log) caught seat.standing ∙ was.its;
   }
-  handles_judging (Handles.detaches seat segs told secondary heard) was = record { more = was.more; lines = was.lines; its = was.its }
+  handles_judging (Handles.detaches seat segs told secondary none heard) was = record { more = was.more; lines = was.lines; its = was.its }
 
   module _ (seats : List Seat) (who : ℕ) (old new : Seat) (there : slice_get seats who ≡ Some old) where
     -- the seat of participant 0, where one came to something else

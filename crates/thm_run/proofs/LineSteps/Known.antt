@@ -8,7 +8,7 @@ use Rattle.hp_log.specs.declared.log_record.LogRecord.{LogRecord}
 use Rattle.hp_script.specs.declared.workload.Workload.{Workload}
 use Rattle.hp_proc.specs.LinesDone.{Course, courses_of, trace_of}
 use Rattle.hp_serve.specs.Party.{Party}
-use Rattle.hp_proc.specs.Seen.{AreRefusals, IsRefusedRow}
+use Rattle.hp_proc.specs.Handed.{AreOwnFailures, IsFailureOfItsRow}
 use Rattle.thm_run.proofs.PathSteps.ByMail.{run_of}
 use Rattle.thm_run.specs.Seats.{Seat}
 use Rattle.thm_run.specs.SoFar.{SoFar}
@@ -23,9 +23,9 @@ use Rattle.thm_run.proofs.RunFacts.RunCauses as asks
 use Rattle.thm_run.proofs.SeenAndShown.SeenLines.{seen_each}
 
 -- nothing was refused to who did nothing
-pub none_refused : (log : List LogRecord) → AreRefusals log []
+pub none_refused : (log : List LogRecord) → AreOwnFailures log []
 none_refused log = record {
-  rows = All-nil (IsRefusedRow log);
+  rows = All-nil (IsFailureOfItsRow log);
   some = All-nil (λ (number : ℕ). 0 < number);
   rising = λ k within. omega (arith, within);
 }
@@ -37,15 +37,15 @@ module _ (workload : Workload) (courses : List Course) (parties : List Party) (h
   deadlines who seat there = (so.each who seat.party (so.seats who seat there).party).deadline
 
   -- the clause `refusals`
-  pub refused_so_far : (who : ℕ) → AreRefusals so.now.segs.log (trace_of (courses_of who courses))
+  pub refused_so_far : (who : ℕ) → AreOwnFailures so.now.segs.log (trace_of (courses_of who courses))
   refused_so_far who =
       ⊎_elim
       (λ (below : who < workload.participants).
       let its = seat_of workload courses parties hall so who below in
-      subst (AreRefusals so.now.segs.log) (so.seats who its.0 its.1).trace
+      subst (AreOwnFailures so.now.segs.log) (so.seats who its.0 its.1).trace
       (attached.refusals workload.participants workload.absent workload.pools.items so.first so.now so.is_first (run_of so.runs) who its.0 its.1))
       (λ (beyond : workload.participants ≤ who).
-      subst (λ (own : List Course). AreRefusals so.now.segs.log (trace_of own))
+      subst (λ (own : List Course). AreOwnFailures so.now.segs.log (trace_of own))
       (sym (none_of_others workload.participants who courses beyond so.built)) (none_refused so.now.segs.log))
       (cases_lt who workload.participants)
 
@@ -59,10 +59,10 @@ module _ (workload : Workload) (courses : List Course) (parties : List Party) (h
         asks.causes workload.participants workload.absent workload.pools.items so.first so.now so.is_first (run_of so.runs) workload.deadline
         deadlines workload refl refl (ended_so_far workload courses parties hall so);
     seen = seen_each so.now.segs.log so.now.segs.asks (length so.now.segs.log) courses so.seen;
-    refusals = refused_so_far;
+    failed = refused_so_far;
   }
 
 -- after the last line a run has come to the end of its workload
 pub so_far_ends : EndsSo
 so_far_ends workload courses answers parties hall heaps segs tables given so is =
-    ends_by workload courses answers parties hall heaps segs tables so is (known_so_far workload courses parties hall so)
+    ends_by workload courses answers parties hall heaps segs tables given so is (known_so_far workload courses parties hall so)

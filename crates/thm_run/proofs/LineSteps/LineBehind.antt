@@ -20,6 +20,7 @@ use Rattle.hp_proc.specs.Doing.{Done}
 use Rattle.hp_proc.specs.Ends.{history_by, none_made}
 use Rattle.hp_proc.specs.Histories.{entries_for}
 use Rattle.hp_proc.specs.LinesDone.{AreDone, Course, IsDone, courses_of, opening_standing, standing_after, trace_of}
+use Rattle.hp_proc.specs.OwnChunks.{chunks_of}
 use Rattle.hp_serve.specs.Party.{Party}
 use Rattle.hp_proc.specs.Progress.{MayDo, moment_of}
 use Rattle.hp_proc.proofs.Joining.{asked_on}
@@ -113,6 +114,11 @@ module _ (workload : Workload) (courses : List Course) (parties behind : List Pa
         ready = subst (λ (context : Context). MayDo (moment_of (record { party = goes.after.party; context = context }) (part_in new by)
             (seen_in new) (heard_in new))) (knows workload courses parties behind old new line answer given so goes) goes.does.ready;
         tied = goes.does.tied;
+        left = goes.does.left;
+        chunks = λ heap.
+            goes.does.chunks heap
+            ∙ ap (λ (context : Context). chunks_of heap context.standing.chunks)
+            (knows workload courses parties behind old new line answer given so goes);
       }
 
   -- EACH OTHER ONE
@@ -143,7 +149,7 @@ module _ (workload : Workload) (courses : List Course) (parties behind : List Pa
       seat.it.party after seat.it last.it seat.there last.there refl (same_Some last.it.party after (sym were.2 ∙ behind_at)) still
       (so.each other seat.it.party party_is) (so.seats other seat.it seat.there).trace far.same
       (context_stays workload other courses one beside)
-      (ap (λ (lines : List Course). trace_of lines) (other_courses other courses one beside)) far.tied
+      (ap (λ (lines : List Course). trace_of lines) (other_courses other courses one beside)) far.tied far.left
 
   pub line_known : (other : ℕ) (after : Party) → slice_get behind other ≡ Some after → IsKnownFor workload lines new other after
   line_known other after behind_at =

@@ -1,45 +1,24 @@
--- What an end says of lines and of each participant's trace: each line is built, and none awaits.
+-- What an end says of each participant's trace: its asks have their outcomes.
 use Rattle.std.proofs.Common.{◌≡◌, ℕ, ◌<◌, ◌≤◌, ⊎_elim, ◌==◌, List, [], ◌∷◌, map, Some, slice_get, sym, subst}
 use Rattle.std.specs.List.{All}
 use Rattle.std.proofs.lemmas.Bool.{cases_lt}
 use Rattle.std.proofs.lemmas.List.Elements.{All-cons, All-filter, All-head, All-nil, All-tail}
-use Rattle.hp_heap.specs.History.{HeapView}
 use Rattle.hp_plain.specs.HallView.{HallView, seen_in}
 use Rattle.hp_log.specs.declared.log_record.LogRecord.{LogRecord}
-use Rattle.hp_script.specs.Built.{IsBuiltAct}
-use Rattle.hp_script.specs.declared.line.Act.{Act}
-use Rattle.hp_script.specs.declared.line.Act.TheVariants as act
-use Rattle.hp_script.specs.declared.line.Line.{Line}
 use Rattle.hp_script.specs.declared.workload.Workload.{Workload}
-use Rattle.hp_segs.proofs.RowTables.TableUse.{at_place}
 use Rattle.hp_segs.specs.declared.outcome.AskLog.{AskLog}
 use Rattle.hp_proc.specs.Acting.{AreAsked}
-use Rattle.hp_proc.specs.Awaits.{AreAwaited}
 use Rattle.hp_proc.specs.Doing.{Done}
 use Rattle.hp_proc.specs.LinesDone.{Course, courses_of, trace_of}
 use Rattle.hp_proc.specs.Outcomes.{AreAnsweredSo, AreAsksInTurn, AreInTurn}
 use Rattle.hp_serve.specs.Party.{Party}
-use Rattle.hp_proc.specs.Progress.{IsLineBuilt}
 use Rattle.thm_run.specs.Seats.{Seat}
-use Rattle.thm_run.specs.SoFar.{IsOfDeclared, SoFar, trace_for}
+use Rattle.thm_run.specs.SoFar.{SoFar, trace_for}
 use Rattle.thm_run.proofs.WhatWentBack.GoneSoFar.{none_of_others}
 use Rattle.thm_run.proofs.HallFacts.HallSegs.{seat_of}
 use Rattle.thm_run.proofs.RunFacts.SoFarFacts.{asks_are, log_is}
 use Rattle.thm_run.proofs.SeenAndShown.Provenance as made
 use Rattle.thm_run.proofs.SeenAndShown.SeenLog.{fresh, later_above}
-
--- a line that is built is no await
-no_await : (who : ℕ) (does : Act) (other lines : ℕ) → does ≡ act.Await other lines → IsLineBuilt who does → ⊥
-no_await who does other lines is one = let built = (subst (IsLineBuilt who) is one).0 in cc
-
--- the clause `awaited`: no line awaits
-pub none_awaits : (count : ℕ) (courses : List Course) (heaps : List HeapView) → All (IsOfDeclared count) courses
-    → AreAwaited courses heaps
-none_awaits count courses heaps built who place other lines course at awaits =
-    absurd
-    (no_await course.line.participant course.line.act other lines awaits
-    (at_place (IsOfDeclared count) (courses_of who courses) place course
-    (All-filter (λ (course : Course). course.line.participant == who) (IsOfDeclared count) courses built) at).act)
 
 -- who asked nothing has all answers
 pub none_asked : (log : List LogRecord) (asks : List AskLog) (who : ℕ) → AreAnsweredSo log asks who []

@@ -3,8 +3,13 @@ use Rattle.std.proofs.Common.{◌≡◌, ◌≢◌, ◌∙◌, ◌==◌, ℕ, �
 use Rattle.std.specs.Prelude.{slice_get}
 use Rattle.std.proofs.lemmas.Bool.{cases_eq, cond-false, cond-true, eq-eqb}
 use Rattle.std.proofs.lemmas.Option.{same_Some, slice_get_within}
-use Rattle.hp_plain.specs.HallView.{HallView}
-use Rattle.hp_hall.specs.Mail.{steps_of}
+use Rattle.hp_plain.specs.HallView.{HallView, lines_at}
+use Rattle.hp_plain.specs.Keeping.{values_in}
+use Rattle.hp_hall.specs.Mail.{MailStep, steps_of}
+use Rattle.hp_hall.specs.declared.kept.Kept.{Kept}
+use Rattle.hp_hall.specs.declared.kept.Kept.TheVariants.{Names}
+use Rattle.hp_hall.specs.declared.note.Note.TheVariants.{LoadedDone, Stored}
+use Rattle.hp_hall.specs.declared.slot.TheConstants.{NAMES_SLOT}
 use Rattle.hp_script.specs.declared.answer.Answer.{Answer}
 use Rattle.hp_script.specs.declared.line.Line.{Line}
 use Rattle.hp_script.specs.declared.workload.Workload.{Workload}
@@ -17,7 +22,7 @@ use Rattle.hp_proc.specs.Acting.{Acts}
 use Rattle.hp_proc.specs.Progress.{Moment, doer_at}
 use Rattle.hp_proc.proofs.LineEnds.{line_counted}
 use Rattle.hp_serve.specs.Party.{Party}
-use Rattle.thm_run.specs.EndLaws.{GoesBy, IsGiven, ServesBeside}
+use Rattle.thm_run.specs.EndLaws.{GoesBy, IsGiven, ServesBeside, tells_one_more}
 use Rattle.thm_run.specs.Seats.{EndedLine, Seat}
 use Rattle.thm_run.specs.SoFar.{IsSoFarFor, SoFar, context_of, ended_for, standing_of, trace_for}
 use Rattle.thm_run.proofs.EndedLines.{last_ended, other_ended, own_ended}
@@ -25,8 +30,9 @@ use Rattle.thm_run.proofs.HeapGivers.{GiveNoHeap, NoOtherGives}
 use Rattle.thm_run.proofs.SeatFacts.LastSeats.{CameTo}
 use Rattle.thm_run.proofs.LineSteps.LineMore.{context_more, context_stays, other_courses, own_trace}
 use Rattle.thm_run.proofs.LineSteps.LineTries.{TriesAtMostOnce, line_tries}
-use Rattle.thm_run.proofs.NamesStay.{GiveNamesAsTaken, NobodyChangesNames, acts_names, give_no_names}
-use Rattle.thm_run.proofs.PathSteps.Paths.{Comes}
+use Rattle.thm_run.proofs.NamesAlong.{LeavesNames, line_leaves}
+use Rattle.thm_run.proofs.SlotAlong.{IsKeptAlong, IsNoSegs, along_front, kept_along}
+use Rattle.thm_run.proofs.PathSteps.Paths.{Comes, comes_told}
 use Rattle.thm_run.proofs.PathSteps.PathsActing.{ended_after, line_path}
 use Rattle.thm_run.proofs.PathSteps.PathsAsking.{longest}
 use Rattle.thm_run.proofs.PathSteps.PathsWaiting.{serves_as, serves_path}
@@ -100,6 +106,10 @@ module _ (workload : Workload) (courses : List Course) (parties behind : List Pa
       let after = at_place behind other (omega (arith, slice_get_within parties other party there, goes.count)) in
       (after.it, after.there, goes.others other party after.it beside there after.there)
 
+  -- all its steps: those of its line, and those by which it tells that it is done
+  abbrev pub all_steps : List MailStep
+  all_steps = goes.does.does.does.steps ++ tells_one_more who (lines_at old who)
+
   own_comes : (seat : Seat) → slice_get so.now.seats who ≡ Some seat
       → CameTo (IsLast workload.participants behind more left ended goes.course.steps) who seat
   own_comes seat there =
@@ -125,14 +135,16 @@ module _ (workload : Workload) (courses : List Course) (parties behind : List Pa
       standing_is
       ∙ ap (λ (trace : List Done). record one_ended { numbered = length (numbered_in trace) } ∷ []) traced
       ∙ sym own_one in
-      came_by workload.participants who behind more left ended goes.course.steps seat goes.after.party did.steps goes.behind_is
-      (steps_done old new goes.course who did.steps did.made)
+      came_by workload.participants who behind more left ended goes.course.steps seat goes.after.party all_steps goes.behind_is
+      (steps_done old new goes.course who all_steps did.made)
+      (comes_told workload.participants who goes.after.party (left who) (ended who) (more who) did.steps seat
+      (LoadedDone who (lines_at old who)) (Stored (lines_at old who + 1))
       (subst (λ (more : List Done). Comes workload.participants who goes.after.party (left who) (ended who) more did.steps seat) (sym own_more)
       (subst (λ (ended : List EndedLine). Comes workload.participants who goes.after.party (left who) ended trace did.steps seat) ended_is
       (subst (λ (left : Standing). Comes workload.participants who goes.after.party left
       (ended_after mid line.act answer (seat.trace ++ trace) ∷ []) trace did.steps seat) standing_is
       (subst (λ (party : Party). Comes workload.participants who party (after_registering line.act answer mid).context.standing
-      (ended_after mid line.act answer (seat.trace ++ trace) ∷ []) trace did.steps seat) party_is comes))))
+      (ended_after mid line.act answer (seat.trace ++ trace) ∷ []) trace did.steps seat) party_is comes)))))
 
   other_comes : (other : ℕ) (seat : Seat) → other ≢ who → slice_get so.now.seats other ≡ Some seat
       → CameTo (IsLast workload.participants behind more left ended goes.course.steps) other seat
@@ -203,16 +215,31 @@ module _ (workload : Workload) (courses : List Course) (parties behind : List Pa
           subst GiveNoHeap (sym (steps_done old new goes.course other served.steps served.did))
           (serves_leaves workload.participants party.it (other_behind other party.it beside party.there).0 served.steps served.serves).none
 
-  -- nobody gives the names back
-  pub line_names : NobodyChangesNames (length old.owns) goes.course.steps
-  line_names other below =
-      ⊎_elim
-      (λ (same : other ≡ who).
-      let did = goes.does.does.does in
-      subst (λ (other : ℕ). GiveNamesAsTaken (steps_of other goes.course.steps)) (sym same)
-      (subst GiveNamesAsTaken (sym (steps_done old new goes.course who did.steps did.made)) (acts_names did.acts)))
-      (λ none. give_no_names (steps_of other goes.course.steps) none)
-      (line_gives other below)
+  -- so the steps on heaps and on the names are the doer's
+  pub others_give : (other : ℕ) → other < length old.owns → other ≢ who → GiveNoHeap (steps_of other goes.course.steps)
+  others_give other below beside = elim (line_gives other below) [
+    | inl same ↦ absurd (beside same)
+    | inr none ↦ none
+  ]
+
+  -- what a slot keeps along the line
+  pub slot_along : (number : ℕ) (kept : Kept) → slice_get (values_in old) number ≡ Some kept → IsNoSegs kept
+      → IsKeptAlong number who kept all_steps (values_in new)
+  slot_along number kept there none =
+      subst (λ (steps : List MailStep). IsKeptAlong number who kept steps (values_in new))
+      (steps_done old new goes.course who all_steps goes.does.does.does.made)
+      (kept_along number (length old.owns) who goes.course.steps (values_in old) (values_in new) kept goes.course.kept others_give there none)
+
+  -- the names that it leaves
+  pub names_left : (last : Kept) × LeavesNames so.names trace last × (slice_get (values_in new) NAMES_SLOT ≡ Some last)
+  names_left =
+      let along = slot_along NAMES_SLOT (Names so.names) so.named tt in (
+        along.last,
+        line_leaves who so.names trace goes.does.does.does.steps along.last goes.does.does.names
+            (along_front NAMES_SLOT who goes.does.does.does.steps (tells_one_more who (lines_at old who)) (Names so.names) along.last (tt, tt)
+            along.along),
+        along.keep,
+      )
 
   -- the trace of each goes on so
   pub line_traces : (other : ℕ) → trace_for other later ≡ trace_for other courses ++ more other

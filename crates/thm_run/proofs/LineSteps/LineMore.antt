@@ -8,12 +8,11 @@ use Rattle.std.proofs.lemmas.List.{length-append}
 use Rattle.std.specs.Prelude.{slice_index}
 use Rattle.hp_heap.specs.declared.entry.Entry.{Entry}
 use Rattle.hp_log.specs.declared.log_record.LogRecord.{LogRecord}
-use Rattle.hp_script.specs.ShapeWords.Acts.{label_used}
 use Rattle.hp_script.specs.declared.workload.Workload.{Workload}
 use Rattle.hp_script.specs.declared.line.Line.{Line}
 use Rattle.hp_segs.specs.declared.outcome.AskLog.{AskLog}
 use Rattle.hp_proc.specs.Contexts.{AreFactsOf, Context, after_calls}
-use Rattle.hp_proc.specs.Courses.{AreFacts, OwnCall, Standing, after_line, calls_in, heap_of_element, maker_for}
+use Rattle.hp_proc.specs.Courses.{AreFacts, OwnCall, Standing, after_line, calls_in, heap_of_element, maker_for, name_meant}
 use Rattle.hp_proc.specs.Doing.{Done}
 use Rattle.hp_proc.specs.Lines.{Facts}
 use Rattle.hp_proc.specs.LinesDone.{AreDone, Course, IsDone, courses_of, opening_standing, standing_after, trace_of}
@@ -78,8 +77,9 @@ known_next workload who courses socket context line facts its is own known = rec
   own_socket = known.own_socket ∙ its ∙ ap (λ (who : ℕ). slice_index workload.sockets who) (sym own);
   pools = known.pools ∙ ap (λ (context : Context). context.pools) is;
   request = known.request;
-  maker = known.maker ∙ ap (λ (context : Context). maker_for context.lines (label_used line.act)) is;
+  maker = known.maker ∙ ap (λ (context : Context). maker_for context.lines (name_meant line.act)) is;
   own_heap = known.own_heap ∙ ap (λ (context : Context). heap_of_element context.pools context.standing.elements facts.maker) is;
+  chunks = known.chunks ∙ ap (λ (context : Context). context.standing.chunks) is;
   watchers = known.watchers ∙ ap (λ (context : Context). context.standing.watchers) is;
   validators = known.validators ∙ ap (λ (context : Context). context.standing.validators) is;
 }

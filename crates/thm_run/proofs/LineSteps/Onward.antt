@@ -1,11 +1,15 @@
 -- How far a workload was run stands after its next line.
-use Rattle.std.proofs.Common.{◌≡◌, ◌∙◌, ℕ, ◌<◌, false, List, [], length, Some, refl, ap, sym, subst}
+use Rattle.std.proofs.Common.{◌≡◌, ◌≢◌, ◌∙◌, ℕ, ◌+◌, ◌<◌, false, List, [], ◌∷◌, length, length-append, Some, refl, ap, sym, subst, arith, ⊎_elim}
 use Rattle.std.specs.Prelude.{Contains, slice_get}
 use Rattle.std.specs.List.Sorted.{IsPermutation}
 use Rattle.std.proofs.lemmas.List.Elements.{All-push}
+use Rattle.std.proofs.lemmas.Bool.{cases_eq}
 use Rattle.std.proofs.lemmas.Option.{same_Some}
 use Rattle.hp_base.specs.declared.limits.TheConstants.{MAX_HEAPS}
-use Rattle.hp_plain.specs.HallView.{HallView, segs_in, slot_at}
+use Rattle.hp_plain.specs.HallView.{HallView, lines_at, segs_in, slot_at}
+use Rattle.hp_plain.specs.Keeping.{values_in}
+use Rattle.hp_hall.specs.declared.kept.Kept.{Kept}
+use Rattle.hp_hall.specs.declared.slot.TheConstants.{NAMES_SLOT}
 use Rattle.hp_script.specs.declared.answer.Answer.{Answer}
 use Rattle.hp_script.specs.declared.line.Line.{Line}
 use Rattle.hp_script.specs.declared.workload.Workload.{Workload}
@@ -17,27 +21,31 @@ use Rattle.hp_proc.specs.Ends.{history_by, none_made}
 use Rattle.hp_heap.specs.HistoryLaws.{runs_grown}
 use Rattle.hp_segs.specs.GrantedRuns.{granted_runs}
 use Rattle.hp_proc.specs.LinesDone.{Course, courses_of, opening_standing, standing_after}
+use Rattle.hp_proc.specs.NamesOfLines.{names_after}
+use Rattle.hp_proc.specs.SharedNames.{SharedNames}
 use Rattle.hp_serve.specs.Party.{Party}
 use Rattle.hp_proc.specs.Seen.{AreSeen, seen_by_lines}
 use Rattle.thm_run.specs.Drops.{DropsComeFirst, DropsGoOnByLine, cut_by_lines}
 use Rattle.thm_run.specs.EndLaws.{GoesBy, GoesOnByLine, IsGiven, MayFailAsBefore}
 use Rattle.thm_run.specs.Freed.{AreShown, NoneComesLate, ShownGoOnByLine}
 use Rattle.thm_run.specs.Seats.{EndedLine, Seat}
-use Rattle.thm_run.specs.SoFar.{SoFar, first_names}
+use Rattle.thm_run.specs.SoFar.{SoFar}
 use Rattle.thm_run.specs.Together.{GlobalState, RunsByMail}
 use Rattle.thm_run.proofs.LineSteps.Arriving.{enrolled_there, last_of, left_there, may_fail_before, runs_all}
 use Rattle.thm_run.proofs.WhatWentBack.GoneSoFar.{all_back}
 use Rattle.thm_run.proofs.SeatFacts.LastSeats.{CameTo}
 use Rattle.thm_run.proofs.LineSteps.LineBehind.{all_came, line_built, line_done, line_in_order, line_is_done, line_known, there}
 use Rattle.thm_run.proofs.LineSteps.LineClauses.{asks_of_each}
-use Rattle.thm_run.proofs.NamesStay.{names_on}
+use Rattle.thm_run.proofs.LineSteps.LineMore.{other_courses, own_courses}
+use Rattle.thm_run.proofs.LinesTold.{lines_still}
+use Rattle.thm_run.proofs.NamesAlong.{LeavesNames, names_more}
 use Rattle.thm_run.proofs.Registrations.LinesRegistered.{line_its_run, line_registered}
-use Rattle.thm_run.proofs.LineSteps.LineComes.{course_of, ended, knows, later, left, line_comes, line_endings, line_names, line_traces, line_tries_so, more, own_more, trace, who}
+use Rattle.thm_run.proofs.LineSteps.LineComes.{course_of, ended, knows, later, left, line_comes, line_endings, line_traces, names_left, others_give, line_tries_so, more, own_more, trace, who}
 use Rattle.thm_run.proofs.LineSteps.LineSettled.{IsLineRun}
 use Rattle.thm_run.proofs.LineSteps.LineTries.{TriesAtMostOnce}
 use Rattle.thm_run.proofs.SeenAndShown.SeenAndGrown as shown
 use Rattle.thm_run.proofs.SeenAndShown.ShownOn.{shown_on}
-use Rattle.thm_run.proofs.RunFacts.SoFarFacts.{IsAt, seat_of}
+use Rattle.thm_run.proofs.RunFacts.SoFarFacts.{IsAt, owns_many, seat_of}
 use Rattle.thm_run.proofs.RunFacts.SoFarOn.{AreLinesThere, so_far_on}
 use Rattle.thm_run.proofs.PathSteps.WaysOn.{IsLast}
 
@@ -106,6 +114,30 @@ module _ (workload : Workload) (courses : List Course) (parties behind : List Pa
       (standing_after (opening_standing workload by) (courses_of by courses)) one refl
       (line_is_done workload courses parties behind old new line answer given so goes)
 
+  -- the names that it leaves
+  found : (last : Kept) × LeavesNames so.names did last × (slice_get (values_in new) NAMES_SLOT ≡ Some last)
+  found = names_left workload courses parties behind old new line answer given so goes
+
+  left_names : LeavesNames so.names did found.0
+  left_names = found.1
+
+  -- each has told of its lines
+  told : (other : ℕ) → other < workload.participants → lines_at new other ≡ length (courses_of other lines)
+  told other below =
+      ⊎_elim
+      (λ (same : other ≡ by).
+      let own : length (courses_of by lines) ≡ length (courses_of by courses) + 1 =
+      ap (λ (own : List Course). length own) (own_courses by courses one refl) ∙ length-append (courses_of by courses) (one ∷ []) in
+      subst (λ (other : ℕ). lines_at new other ≡ length (courses_of other lines)) (sym same)
+      (goes.does.told ∙ ap (λ (n : ℕ). n + 1) (so.told by goes.declared) ∙ sym own))
+      (λ (beside : other ≢ by).
+      lines_still other old new goes.course
+      (others_give workload courses parties behind old new line answer given so goes other
+      (omega (arith, below, owns_many workload courses parties old so)) beside)
+      ∙ so.told other below
+      ∙ sym (ap (λ (own : List Course). length own) (other_courses other courses one beside)))
+      (cases_eq other by)
+
   lines_there : AreLinesThere workload lines new now
   lines_there = record {
     among = All-push (λ (course : Course). Contains workload.lines.items course.line) courses one so.among goes.among;
@@ -114,7 +146,11 @@ module _ (workload : Workload) (courses : List Course) (parties behind : List Pa
     in_order = line_in_order workload courses parties behind old new line answer given so goes;
     seen = seen;
     grown = grown;
-    named = names_on old new goes.course (line_names workload courses parties behind old new line answer given so goes) (first_names workload) so.named;
+    names = left_names.given;
+    named = found.2 ∙ ap (λ (kept : Kept). Some kept) left_names.last_is;
+    opened = left_names.sockets ∙ so.opened;
+    leave = left_names.leaves ∙ ap (λ (names : SharedNames). names_after names did) so.leave ∙ sym (names_more courses one);
+    told = told;
   }
 
   pub on_by_line : SoFar workload lines behind new

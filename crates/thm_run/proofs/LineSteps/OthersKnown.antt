@@ -1,10 +1,11 @@
 -- A participant that served while another one did its line, or after the last line: what it knows and what the heaps have of it stays.
-use Rattle.std.proofs.Common.{◌≡◌, ◌∙◌, ℕ, true, List, ◌++◌, length, Option, Some, None, ap, sym, subst}
+use Rattle.std.proofs.Common.{◌≡◌, ◌∙◌, ℕ, true, false, List, [], ◌++◌, length, map, Option, Some, None, ap, sym, subst}
 use Rattle.std.specs.Prelude.{slice_get}
 use Rattle.std.specs.List.{list_any, range_with_len}
 use Rattle.std.specs.Option.{option_and_then}
 use Rattle.hp_base.specs.declared.limits.TheConstants.{MAX_HEAPS}
-use Rattle.hp_plain.specs.Course.{IsCourse, course_heard, course_seen}
+use Rattle.hp_plain.specs.Course.{IsCourse, course_heard, course_seen, course_then}
+use Rattle.hp_plain.specs.CourseLaws.{AreSoundAndArmed}
 use Rattle.hp_plain.specs.HallView.{HallView, heard_in, own_at, part_in, seen_in, segs_in, slot_at}
 use Rattle.hp_plain.specs.Opening.{AreHome}
 use Rattle.hp_hall.specs.Asks.{IsClaimedIn}
@@ -23,15 +24,19 @@ use Rattle.hp_proc.specs.Doing.{Done}
 use Rattle.hp_proc.specs.Heaps.{sockets_of}
 use Rattle.hp_proc.specs.Histories.{entries_for}
 use Rattle.hp_proc.specs.LinesDone.{Course}
+use Rattle.hp_proc.specs.OwnChunks.{chunks_of, own_chunk}
 use Rattle.hp_serve.specs.Asking.{HasSettledAsks}
 use Rattle.hp_serve.specs.Party.{IsSameParty, Party}
 use Rattle.hp_proc.specs.Progress.{MayDo, moment_of}
 use Rattle.hp_serve.specs.Tied.{IsTied}
 use Rattle.thm_run.specs.Seats.{Seat}
-use Rattle.thm_run.specs.SoFar.{IsSoFarFor, SoFar, context_of, doer_of, trace_for}
+use Rattle.thm_run.specs.SoFar.{IsSoFarFor, SoFar, context_of, doer_of, first_hall, trace_for}
 use Rattle.thm_run.specs.Together.{GlobalState, RunsByMail}
 use Rattle.thm_run.proofs.TracesTold.AsksSettled.{answered_of}
+use Rattle.thm_run.proofs.HallFacts.HallHeaps.{first_sound}
 use Rattle.thm_run.proofs.HeapGivers.{NoOtherGives}
+use Rattle.thm_run.proofs.MarksAlong.{marks_rest}
+use Rattle.thm_run.proofs.SoundHistories.{kept_sound}
 use Rattle.thm_run.proofs.LineSteps.LineMore.{asked_later}
 use Rattle.thm_run.proofs.SeatFacts.PartsOn.{asks_shown, entries_rest, log_shown, made_alike, serves_still, slots_still, unheld_at_home}
 use Rattle.thm_run.proofs.SeenAndShown.Provenance.{asked_counts}
@@ -52,7 +57,8 @@ module _ (workload : Workload) (courses later : List Course) (parties : List Par
       (late : slice_get next.seats who ≡ Some last) (party_is : seat.party ≡ party) (after_is : last.party ≡ after)
       (still : last.trace ≡ seat.trace) (its : IsSoFarFor workload courses old who party) (own : seat.trace ≡ trace_for who courses)
       (same : IsSameParty party after) (context : context_of workload who later ≡ context_of workload who courses)
-      (trace : trace_for who later ≡ trace_for who courses) (tied : IsTied (seen_in new) (own_at new who) after.joined after.maps) where
+      (trace : trace_for who later ≡ trace_for who courses) (tied : IsTied (seen_in new) (own_at new who) (λ heap. (part_in new who heap).marked) after.joined after.maps)
+      (out : after.joined ≡ false → (heap : ℕ) → (part_in new who heap).marked ≡ []) where
     -- the number of its last ask
     asked_same : after.asked ≡ party.asked
     asked_same =
@@ -98,6 +104,16 @@ module _ (workload : Workload) (courses later : List Course) (parties : List Par
           subst (λ (holding : Option Holding). IsClaimedIn holding entry) (sym (unheld heap)) tt;
     }
 
+    -- the values of the hall are sound
+    early_sound : AreSoundAndArmed old
+    early_sound =
+        kept_sound workload so.held so.first_heaps (first_sound workload courses parties old so) so.names_sound old so.course
+
+    sound : AreSoundAndArmed new
+    sound =
+        kept_sound workload so.held so.first_heaps (first_sound workload courses parties old so) so.names_sound new
+        (course_then (first_hall workload so.held) old new so.course course)
+
     entries : (heap : ℕ) → (part_in new who heap).entries ≡ (part_in old who heap).entries
     entries heap = entries_rest of old new course gives who apart heap
 
@@ -123,4 +139,9 @@ module _ (workload : Workload) (courses later : List Course) (parties : List Par
       asked = subst (λ (trace : List Done). AreAsked (seen_in new) (heard_in new) who 0 after.asked trace) (sym trace) asked;
       ready = ready;
       tied = tied;
+      left = out;
+      chunks = λ heap.
+          ap (map (own_chunk heap)) (marks_rest who of old new course gives early_sound sound apart heap)
+          ∙ its.chunks heap
+          ∙ ap (λ (context : Context). chunks_of heap context.standing.chunks) (sym context);
     }

@@ -6,6 +6,9 @@ use Rattle.std.proofs.lemmas.Option.{same_Some, slice_get_within}
 use Rattle.hp_heap.specs.declared.entry.Entry.{Entry}
 use Rattle.hp_base.specs.declared.limits.TheConstants.{MAX_HEAPS}
 use Rattle.hp_hall.specs.Mail.{steps_of}
+use Rattle.hp_hall.specs.declared.kept.Kept.TheVariants.{Names}
+use Rattle.hp_hall.specs.declared.slot.TheConstants.{NAMES_SLOT}
+use Rattle.hp_plain.specs.Keeping.{values_in}
 use Rattle.hp_plain.specs.Course.{IsCourse}
 use Rattle.hp_plain.specs.HallView.{HallView, history_in, own_at, segs_in, slot_at}
 use Rattle.hp_plain.specs.Opening.{AreHome}
@@ -20,7 +23,7 @@ use Rattle.thm_run.specs.Drops.{DropsComeFirst, DropsRest}
 use Rattle.thm_run.specs.EndLaws.{IsGiven, MayFailAsBefore, OthersServe, RestsSoFar, ServesBeside}
 use Rattle.thm_run.specs.Freed.{AreShown, NoneComesLate, ShownRest}
 use Rattle.thm_run.specs.Seats.{EndedLine, Seat}
-use Rattle.thm_run.specs.SoFar.{AreRegistered, SoFar, ended_for, first_names, standing_of, trace_for}
+use Rattle.thm_run.specs.SoFar.{AreRegistered, SoFar, ended_for, standing_of, trace_for}
 use Rattle.thm_run.specs.Together.{GlobalState, RunsByMail}
 use Rattle.thm_run.proofs.LineSteps.Arriving.{came, enrolled_there, last_of, left_there, may_fail_before, runs_all}
 use Rattle.thm_run.proofs.HeapGivers.{GiveNoHeap, NoOtherGives}
@@ -37,7 +40,8 @@ use Rattle.thm_run.proofs.Registrations.LaterRecords.{grants_later}
 use Rattle.thm_run.proofs.Registrations.ServedRegistered.{served_registered}
 use Rattle.hp_hall.specs.Later.{IsLaterSegs}
 use Rattle.hp_serve.specs.Watched.{HearsOn}
-use Rattle.thm_run.proofs.NamesStay.{NobodyChangesNames, give_no_names, names_on}
+use Rattle.thm_run.proofs.LinesTold.{lines_still}
+use Rattle.thm_run.proofs.SlotAlong.{kept_still}
 use Rattle.thm_run.proofs.LineSteps.OthersKnown.{known_still}
 use Rattle.thm_run.proofs.SeatFacts.PartsOn.{history_on}
 use Rattle.thm_run.proofs.PathSteps.Paths.{Comes}
@@ -102,9 +106,9 @@ module _ (workload : Workload) (courses : List Course) (parties behind : List Pa
       (subst GiveNoHeap (sym (steps_done old new course who served.steps served.did))
       (serves_leaves workload.participants party.it far.0 served.steps served.serves).none)
 
-  -- nobody gives the names back
-  names : NobodyChangesNames (length old.owns) course.steps
-  names who below = ⊎_elim (λ none. absurd none) (λ none. give_no_names (steps_of who course.steps) none) (gives who below)
+  -- nobody gives a heap or the names back
+  none_give : (who : ℕ) → who < length old.owns → GiveNoHeap (steps_of who course.steps)
+  none_give who below = ⊎_elim (λ none. absurd none) (λ none. none) (gives who below)
 
   abbrev all_came : AllCame workload.participants so.now behind nothing left none_ended new
   all_came = came workload courses parties behind old new so given.few course nothing left none_ended comes tries
@@ -132,7 +136,7 @@ module _ (workload : Workload) (courses : List Course) (parties behind : List Pa
       let served = serve who seat.it.party after (λ none. none) party_is at in
       known_still workload courses courses parties old new so course home now to_there all_came.gone.its (λ who. ⊥) gives who (λ none. none)
       seat.it.party after seat.it last.it seat.there last.there refl (same_Some last.it.party after (sym were.2 ∙ at)) still
-      (so.each who seat.it.party party_is) (so.seats who seat.it seat.there).trace served.same refl refl served.tied
+      (so.each who seat.it.party party_is) (so.seats who seat.it seat.there).trace served.same refl refl served.tied served.left
 
   -- the run of the servings, told as one of participant 0
   abbrev before : IsAt so.now.seats 0
@@ -191,7 +195,12 @@ module _ (workload : Workload) (courses : List Course) (parties behind : List Pa
     grown = λ index below.
         shown.grown_stays workload.participants workload.absent workload.pools.items so.first so.now now so.is_first so.runs 0 before.it
         last.it [] its_run courses index (so.grown index below) refl;
-    named = names_on old new course names (first_names workload) so.named;
+    names = so.names;
+    named = kept_still NAMES_SLOT (length old.owns) course.steps (values_in old) (values_in new) (Names so.names) course.kept none_give so.named tt;
+    opened = so.opened;
+    leave = so.leave;
+    told = λ who below.
+        lines_still who old new course (none_give who (omega (arith, below, owns_many workload courses parties old so))) ∙ so.told who below;
   }
 
   pub on_by_rest : SoFar workload courses behind new

@@ -202,3 +202,20 @@ module _ (count who : ℕ) where
         trace = serves.trace ∙ sym (append-nil seat.trace);
         path = serves.path;
       })
+
+  -- and then makes two notes
+  pub comes_told : (after : Party) (left : Standing) (ended : List EndedLine) (more : List Done) (steps : List MailStep) (seat : Seat)
+      (first second : Note) → Comes count who after left ended more steps seat
+      → Comes count who after left ended more (steps ++ Notes first ∷ (Notes second ∷ [])) seat
+  comes_told after left ended more steps seat first second comes =
+      let last : Seat = comes.new in
+      record {
+        new = last;
+        party = comes.party;
+        standing = comes.standing;
+        lines = comes.lines;
+        trace = comes.trace;
+        path = path_then seat last last steps (Notes first ∷ (Notes second ∷ [])) comes.path
+            (SeatTrace.mails last last last (Notes first) (Notes second ∷ []) (Mails.notes last first)
+            (SeatTrace.mails last last last (Notes second) [] (Mails.notes last second) (SeatTrace.ends last)));
+      }

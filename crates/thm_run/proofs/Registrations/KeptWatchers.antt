@@ -59,7 +59,7 @@ pub acts_hears : {count : ℕ} {hand last : Option ℕ} {held : List ℕ} {doer 
     → Acts count hand last held doer after trace steps → HearsOn doer.party after.party
 acts_hears (Acts.nothing hand doer) = hears_same doer.party
 acts_hears {count} (Acts.waits_turn until doer after moved steps turned) = hears_turned count until doer.party after steps (Some moved) turned
-acts_hears (Acts.takes_heap doer heap pen) = hears_same doer.party
+acts_hears (Acts.takes_heap doer heap pen few) = hears_same doer.party
 acts_hears (Acts.gives_heap doer heap pen) = hears_same doer.party
 acts_hears (Acts.makes_call doer heap call answer none) = hears_same doer.party
 acts_hears (Acts.cuts_run doer heap addr run taken) = hears_same doer.party
@@ -68,7 +68,7 @@ acts_hears {count} (Acts.notifies_run doer after heap run steps notifies) = hear
 acts_hears (Acts.attaches doer after taken caught attaches) =
     let heard = hears_caught taken.log caught attaches.maps doer.party in
     subst (HearsOn doer.party) (sym attaches.after_is) (record { names = heard.names; since = heard.since })
-acts_hears (Acts.detaches doer taken told above heard) = record {
+acts_hears (Acts.detaches doer taken told above left bare heard) = record {
   names = hears_rows doer.party.maps.rows doer.party.listeners told heard;
   since = ap (map (λ (listener : Listener). listener.since)) heard.told ∙ since_all (events_of kind.Free heard.rising) doer.party.listeners;
 }
@@ -76,6 +76,16 @@ acts_hears (Acts.notes_left doer elements) = hears_same doer.party
 acts_hears (Acts.reads_names doer names) = hears_same doer.party
 acts_hears (Acts.looks_up_lines doer other lines) = hears_same doer.party
 acts_hears (Acts.reads_stats doer heap pair) = hears_same doer.party
+acts_hears (Acts.changes_names hand doer change) = hears_same doer.party
+acts_hears (Acts.holds_names held doer after taken given trace steps inner changes) = acts_hears inner
+acts_hears (Acts.sees_heap doer heap pen few) = hears_same doer.party
+acts_hears (Acts.looks_at_segs doer heap taken) = hears_same doer.party
+acts_hears (Acts.plans_range doer heap addr len page taken) = hears_same doer.party
+acts_hears (Acts.claims doer heap chunk taken plan) = hears_same doer.party
+acts_hears (Acts.releases doer heap chunk taken) = hears_same doer.party
+acts_hears (Acts.maps_chunk doer heap chunk after ended is) = record { names = refl; since = refl }
+acts_hears (Acts.shares doer heap chunk same) = hears_same doer.party
+acts_hears (Acts.leaves doer heap chunk after is) = record { names = refl; since = refl }
 acts_hears (Acts.and_then hand between last held more doer mid after first rest before later here next) =
     hears_then doer.party mid.party after.party (acts_hears here) (acts_hears next)
 

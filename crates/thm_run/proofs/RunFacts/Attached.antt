@@ -64,12 +64,22 @@ quietly_left log (Quietly.counts seat sent) was =
     left_so log _ _ (record { joined = refl; attached = refl; records = refl; number = refl }) was
 quietly_left log (Quietly.calls seat heap call answer none) was =
     left_so log _ _ (record { joined = refl; attached = refl; records = refl; number = refl }) was
-quietly_left log (Quietly.notes seat elements) was =
+quietly_left log (Quietly.notes seat elements chunks) was =
     left_so log _ _ (record { joined = refl; attached = refl; records = refl; number = refl }) was
 quietly_left log (Quietly.reads_names seat names) was =
     left_so log _ _ (record { joined = refl; attached = refl; records = refl; number = refl }) was
 quietly_left log (Quietly.reads_stats seat heap counted) was =
     left_so log _ _ (record { joined = refl; attached = refl; records = refl; number = refl }) was
+quietly_left log (Quietly.changes_names seat change) was =
+    left_so log _ _ (record { joined = refl; attached = refl; records = refl; number = refl }) was
+quietly_left log (Quietly.sees_heap seat heap history) was =
+    left_so log _ _ (record { joined = refl; attached = refl; records = refl; number = refl }) was
+quietly_left log (Quietly.plans_range seat addr len page plan) was =
+    left_so log _ _ (record { joined = refl; attached = refl; records = refl; number = refl }) was
+quietly_left log (Quietly.maps_chunk seat chunk maps ended is) was =
+    left_so log _ _ (record { joined = refl; attached = refl; records = refl; number = is.others.number }) was
+quietly_left log (Quietly.leaves_chunk seat chunk maps is) was =
+    left_so log _ _ (record { joined = refl; attached = refl; records = refl; number = is.others.number }) was
 quietly_left log (Quietly.ends_line seat deed given) was =
     left_so log _ _ (record { joined = refl; attached = refl; records = refl; number = refl }) was
 
@@ -150,6 +160,7 @@ pub handles_left : {count who : ℕ} {old new : Seat} {taken given : SegsView} �
     → is_member taken.roster who ≡ old.party.joined → (tries_in new.trace ≡ tries_in old.trace + 1 → old.party.joined ≡ false)
     → IsAsLeft taken.log old → IsAsLeft taken.log new
 handles_left (Handles.looks seat segs) sound enrolled out was = was
+handles_left (Handles.moves_ranges seat segs ranges moves) sound enrolled out was = was
 handles_left (Handles.steps seat segs event core is its knows denied may) sound enrolled out was =
     left_so segs.log _ _ (record { joined = refl; attached = refl; records = refl; number = refl }) was
 handles_left (Handles.maps seat segs ended table now core is its caught_up) sound enrolled out was =
@@ -167,5 +178,5 @@ handles_left (Handles.cuts seat segs heap addr run) sound enrolled out was =
 handles_left (Handles.attaches seat segs ended after tried) sound enrolled out was =
     tried_left segs.log seat after ended tried
     (out (tries_both seat.trace (Looked (length segs.log) ∷ CaughtUp (length segs.log) ended ∷ []))) _ was
-handles_left (Handles.detaches seat segs told secondary heard) sound enrolled out was =
+handles_left (Handles.detaches seat segs told secondary none heard) sound enrolled out was =
     record { joined = refl; since = λ joined. cc }

@@ -19,6 +19,7 @@ use Rattle.hp_segs.specs.SegsView.{SegsView, closed_number}
 use Rattle.hp_segs.specs.Sound.{IsSound}
 use Rattle.hp_segs.specs.Steps.{after_agree, after_cancel, after_claim, after_close, after_drop, after_failure, after_freed, after_grant, after_open, after_reserve, after_retire, claimed_grant}
 use Rattle.hp_segs.specs.declared.ask.Ask.{Ask}
+use Rattle.hp_segs.specs.declared.external_range.ExternalRange.{ExternalRange}
 use Rattle.hp_segs.specs.declared.growth.Growth.{Growth}
 use Rattle.hp_segs.specs.declared.outcome.Cause.{Cause}
 use Rattle.hp_segs.specs.declared.outcome.Cause.TheVariants.{Denied, MapFailed, Withdrawn}
@@ -27,6 +28,7 @@ use Rattle.hp_segs.specs.declared.plan_refusal.PlanRefusal.{PlanRefusal}
 use Rattle.hp_segs.specs.declared.plan_refusal.PlanRefusal.TheVariants as plan
 use Rattle.hp_maps.specs.Catching.{HasReason}
 use Rattle.hp_serve.specs.Denials.{Denials}
+use Rattle.thm_run.specs.Seats.{with_ranges}
 use Rattle.thm_run.proofs.RunFacts.Changes.{Changes, IsOwed, Logs, MovesRoster, alters, by_grant, by_judge, by_notice, by_number, by_plan, by_withdrawal, fails_mapping, outcome_for, stays}
 use Rattle.thm_run.proofs.RunFacts.Changes as log
 use Rattle.thm_run.proofs.RunFacts.CallCases.{agree_holds, cancel_holds, claim_holds, withdraw_holds}
@@ -54,25 +56,29 @@ plan_fails_none (plan.CannotHold addr len) = refl
 
 module _ (count deadline : ℕ) (may_fail : ℕ → Option (List FailingCall)) (denies : Denials) where
   -- one change of what logs, notes and grows alone
-  one : (old new : SegsView) → new.pools ≡ old.pools → MovesRoster count old.roster new.roster → new.ranges ≡ old.ranges
+  one : (old new : SegsView) → new.pools ≡ old.pools → MovesRoster count old.roster new.roster
       → Logs count deadline may_fail denies old new
       → Changes count deadline may_fail denies old new
-  one old new pools roster ranges logs = alters old new (record { pools = pools; roster = roster; ranges = ranges; logs = logs })
+  one old new pools roster logs = alters old new (record { pools = pools; roster = roster; logs = logs })
 
   module _ (segs : SegsView) where
     pub reserves : (places : ℕ) → Changes count deadline may_fail denies segs (after_reserve places segs)
-    reserves places = one segs (after_reserve places segs) refl (log.same refl) refl (log.nothing refl refl refl)
+    reserves places = one segs (after_reserve places segs) refl (log.same refl) (log.nothing refl refl refl)
+
+    -- external memory comes or goes
+    pub ranges_move : (ranges : List ExternalRange) → Changes count deadline may_fail denies segs (with_ranges ranges segs)
+    ranges_move ranges = one segs (with_ranges ranges segs) refl (log.same refl) (log.nothing refl refl refl)
 
     pub arms : (ask : Ask) → Changes count deadline may_fail denies segs (after_arm ask segs)
-    arms ask = one segs (after_arm ask segs) refl (log.same refl) refl (log.nothing refl refl refl)
+    arms ask = one segs (after_arm ask segs) refl (log.same refl) (log.nothing refl refl refl)
 
     pub retires : (heap : ℕ) (run : Run) → Changes count deadline may_fail denies segs (after_retire heap run segs)
-    retires heap run = one segs (after_retire heap run segs) refl (log.same refl) refl (log.nothing refl refl refl)
+    retires heap run = one segs (after_retire heap run segs) refl (log.same refl) (log.nothing refl refl refl)
 
     pub claims : (from number : ℕ) → Changes count deadline may_fail denies segs (after_claim from number segs)
     claims from number =
         claim_holds (Changes count deadline may_fail denies segs) segs (stays segs) from number
-        (λ generation. one segs (claimed_grant segs (Some generation)) refl (log.same refl) refl (log.nothing refl refl refl))
+        (λ generation. one segs (claimed_grant segs (Some generation)) refl (log.same refl) (log.nothing refl refl refl))
 
     -- a participant's failed mapping is noted
     module _ (who : ℕ) (declared : who < count) where
@@ -80,7 +86,7 @@ module _ (count deadline : ℕ) (may_fail : ℕ → Option (List FailingCall)) (
           → is_noted segs who call row segs.growth ≡ true
           → Changes count deadline may_fail denies segs (record segs { growth = noting (MapFailed who call row.addr got) segs.growth })
       notes row call got so taken =
-          one segs (record segs { growth = noting (MapFailed who call row.addr got) segs.growth }) refl (log.same refl) refl
+          one segs (record segs { growth = noting (MapFailed who call row.addr got) segs.growth }) refl (log.same refl)
           (log.failures who call row got declared so (noted_row segs who call row segs.growth taken) refl refl refl)
 
       -- it has caught up, or failed to for a reason
@@ -97,52 +103,52 @@ module _ (count deadline : ℕ) (may_fail : ℕ → Option (List FailingCall)) (
       -- it attaches, or tries to
       pub attaches : (ended : Caught) → Changes count deadline may_fail denies segs (after_attaching who ended segs)
       attaches caught.Done =
-          one segs (after_join who segs) refl (log.joins who declared refl) refl (log.nothing refl refl refl)
+          one segs (after_join who segs) refl (log.joins who declared refl) (log.nothing refl refl refl)
       attaches (caught.Refused row call) = stays segs
       attaches (caught.Elsewhere row call got) = stays segs
 
     -- a participant other than the first detaches
     pub detaches : (who : ℕ) → who ≢ 0 → Changes count deadline may_fail denies segs (after_leave who segs)
     detaches who secondary =
-        one segs (after_leave who segs) refl (log.leaves who secondary refl) refl (log.nothing refl refl refl)
+        one segs (after_leave who segs) refl (log.leaves who secondary refl) (log.nothing refl refl refl)
 
     pub drops : Changes count deadline may_fail denies segs (after_drop segs)
-    drops = one segs (after_drop segs) refl (log.same refl) refl (log.drops segs.retiring refl refl refl)
+    drops = one segs (after_drop segs) refl (log.same refl) (log.drops segs.retiring refl refl refl)
 
     pub opens : (ask : Ask) (run : Run) → segs.growth ≡ None
         → denies ask.socket (bytes_on (table_of (after_open ask run segs).log) ask.socket) None
         → Changes count deadline may_fail denies segs (after_open ask run segs)
     opens ask run alone allowed =
-        one segs (after_open ask run segs) refl (log.same refl) refl
+        one segs (after_open ask run segs) refl (log.same refl)
         (log.opens ask run (record { generation = length segs.log + 1; ask = ask; run = run; noted = None }) alone refl refl refl refl refl
         refl allowed)
 
     -- an outcome beside the open growth
     pub finds_stale : (from number : ℕ) → Changes count deadline may_fail denies segs (after_stale from number segs)
     finds_stale from number =
-        one segs (after_stale from number segs) refl (log.same refl) refl
+        one segs (after_stale from number segs) refl (log.same refl)
         (log.outcomes _ refl refl refl refl refl (by_number (closed_number segs.asks from)))
 
     pub frees : (from number : ℕ) → Changes count deadline may_fail denies segs (after_freed from number segs)
     frees from number =
-        one segs (after_freed from number segs) refl (log.same refl) refl (log.outcomes _ refl refl refl refl refl (by_notice (length segs.log)))
+        one segs (after_freed from number segs) refl (log.same refl) (log.outcomes _ refl refl refl refl refl (by_notice (length segs.log)))
 
     pub refuses : (ask : Ask) (refusal : PlanRefusal) → Changes count deadline may_fail denies segs
         (after_close ask (cause_of refusal) segs)
-    refuses ask refusal = one segs (after_close ask (cause_of refusal) segs) refl (log.same refl) refl
+    refuses ask refusal = one segs (after_close ask (cause_of refusal) segs) refl (log.same refl)
         (log.outcomes _ refl refl refl (plan_fails_none refusal) refl (by_plan refusal))
 
     -- a judge denied a planned run
     pub denied_by : (ask : Ask) (denial : List ℕ × ℕ) (total : ℕ) → denies ask.socket total (Some denial)
         → Changes count deadline may_fail denies segs (after_close ask (Denied denial.0 denial.1 total) segs)
     denied_by ask denial total may =
-        one segs (after_close ask (Denied denial.0 denial.1 total) segs) refl (log.same refl) refl
+        one segs (after_close ask (Denied denial.0 denial.1 total) segs) refl (log.same refl)
         (log.outcomes _ refl refl refl refl refl (by_judge ask denial total refl may))
 
     module _ (sound : IsSound segs) where
       granted_change : (growth : Growth) → segs.growth ≡ Some growth → Changes count deadline may_fail denies segs (after_grant growth segs)
       granted_change growth is =
-          one segs (after_grant growth segs) refl (log.same refl) refl
+          one segs (after_grant growth segs) refl (log.same refl)
           (log.ends growth
           (outcome_for growth (Granted growth.generation) (Some growth.ask) segs)
           (record {
@@ -167,7 +173,7 @@ module _ (count deadline : ℕ) (may_fail : ℕ → Option (List FailingCall)) (
           → IsOwed deadline denies segs kept (Refused cause)
           → Changes count deadline may_fail denies segs (after_failure growth cause kept places segs)
       failed_change growth cause kept places is its owed =
-          one segs (after_failure growth cause kept places segs) refl (log.same refl) refl
+          one segs (after_failure growth cause kept places segs) refl (log.same refl)
           (log.ends growth
           (outcome_for growth (Refused cause) kept segs)
           (record {
@@ -203,7 +209,7 @@ module _ (count deadline : ℕ) (may_fail : ℕ → Option (List FailingCall)) (
           → Changes count deadline may_fail denies segs (after_withdraw from number since now segs)
       withdraws armed from number since now passed =
           withdraw_holds (Changes count deadline may_fail denies segs) segs (stays segs) from number since now
-          (λ none other. one segs _ refl (log.same refl) refl (log.outcomes _ refl refl refl refl refl (by_withdrawal since now passed)))
+          (λ none other. one segs _ refl (log.same refl) (log.outcomes _ refl refl refl refl refl (by_withdrawal since now passed)))
           (λ none growth is own.
           failed_change growth (Withdrawn since now) (armed_ask segs from) 0 is (own_ask armed from number growth is own)
           (by_withdrawal since now passed))

@@ -94,7 +94,6 @@ pub data Logs (count deadline : ℕ) (may_fail : ℕ → Option (List FailingCal
 pub record Alters (count deadline : ℕ) (may_fail : ℕ → Option (List FailingCall)) (denies : Denials) (old new : SegsView) : Type 0 where
   pub pools : new.pools ≡ old.pools
   pub roster : MovesRoster count old.roster new.roster
-  pub ranges : new.ranges ≡ old.ranges
   pub logs : Logs count deadline may_fail denies old new
 
 -- changes, one after another
@@ -107,15 +106,14 @@ pub data Changes (count deadline : ℕ) (may_fail : ℕ → Option (List Failing
 -- what no participant changes
 pub record Stays (old new : SegsView) : Type 0 where
   pub pools : new.pools ≡ old.pools
-  pub ranges : new.ranges ≡ old.ranges
 
--- the pools and the external memory stay through all changes
+-- the pools stay through all changes
 pub changes_stay : (count deadline : ℕ) (may_fail : ℕ → Option (List FailingCall)) (denies : Denials) (old new : SegsView)
     → Changes count deadline may_fail denies old new
     → Stays old new
-changes_stay count deadline may_fail denies _ _ (stays segs) = record { pools = refl; ranges = refl }
-changes_stay count deadline may_fail denies _ _ (alters old new one) = record { pools = one.pools; ranges = one.ranges }
+changes_stay count deadline may_fail denies _ _ (stays segs) = record { pools = refl }
+changes_stay count deadline may_fail denies _ _ (alters old new one) = record { pools = one.pools }
 changes_stay count deadline may_fail denies _ _ (goes_on old mid new here there) =
     let before = changes_stay count deadline may_fail denies old mid here in
     let behind = changes_stay count deadline may_fail denies mid new there in
-    record { pools = behind.pools ∙ before.pools; ranges = behind.ranges ∙ before.ranges }
+    record { pools = behind.pools ∙ before.pools }

@@ -1,9 +1,10 @@
 -- The end of a workload of several participants, from how far it was run after its last line.
-use Rattle.std.proofs.Common.{◌≡◌, ◌∙◌, ℕ, List, length, refl, subst}
+use Rattle.std.proofs.Common.{◌≡◌, ◌∙◌, ℕ, List, length, refl, subst, sym}
 use Rattle.std.specs.List.{All}
 use Rattle.hp_plain.specs.HallView.{HallView}
 use Rattle.hp_heap.specs.History.{HeapView}
 use Rattle.hp_maps.specs.declared.table.Table.{Table}
+use Rattle.hp_script.specs.Facts.{AwaitEarlier}
 use Rattle.hp_script.specs.declared.answer.Answer.{Answer}
 use Rattle.hp_script.specs.declared.workload.Workload.{Workload}
 use Rattle.hp_segs.specs.SegsView.{SegsView}
@@ -11,17 +12,19 @@ use Rattle.hp_proc.specs.Ends.{IsSoloEnd}
 use Rattle.hp_proc.specs.LinesDone.{Course, IsNoneUngranted, courses_of, trace_of}
 use Rattle.hp_proc.specs.Outcomes.{AreAskedFor, IsRefusedIn}
 use Rattle.hp_serve.specs.Party.{Party}
-use Rattle.hp_proc.specs.Seen.{AreRefusals, AreSeen, seen_in}
+use Rattle.hp_proc.specs.Seen.{AreSeen, seen_in}
+use Rattle.hp_proc.specs.Handed.{AreOwnFailures}
 use Rattle.thm_run.specs.SoFar.{SoFar}
-use Rattle.thm_run.specs.EndLaws.{IsAtEnd}
+use Rattle.thm_run.specs.EndLaws.{IsAtEnd, IsGiven}
+use Rattle.thm_run.proofs.AwaitedInOrder.{awaited_in_order}
 use Rattle.thm_run.proofs.WhatWentBack.GoneSoFar.{gone_so_far, outcomes_so_far}
 use Rattle.thm_run.proofs.HallFacts.HallEnds.{segs_same}
 use Rattle.thm_run.proofs.HallFacts.HallHeaps.{heaps_are, heaps_sound}
 use Rattle.thm_run.proofs.HallFacts.HallHistories.{calls_are, grown_are, in_order, no_calls_beyond}
 use Rattle.thm_run.proofs.HallFacts.HallPages.{pages_owned}
-use Rattle.thm_run.proofs.HallFacts.HallSegs.{nobody_else, none_external, none_growing, pools_are, roster_is, segs_sound}
+use Rattle.thm_run.proofs.HallFacts.HallSegs.{nobody_else, none_growing, pools_are, roster_is, segs_sound}
 use Rattle.thm_run.proofs.HallFacts.HallTables.{mapped_are}
-use Rattle.thm_run.proofs.LineSteps.LineClauses.{asks_in_turn, asks_of_each, none_awaits, numbered_so_far, turns_so_far}
+use Rattle.thm_run.proofs.LineSteps.LineClauses.{asks_in_turn, asks_of_each, numbered_so_far, turns_so_far}
 use Rattle.thm_run.proofs.SeenAndShown.Provenance.{asked_of_traces}
 
 -- what of an end is known by other laws of a run: lines without memory were granted none, each growth was asked for, each refusal has its
@@ -31,10 +34,10 @@ pub record AreKnown (workload : Workload) (courses : List Course) (segs : SegsVi
   pub asked_for : AreAskedFor segs
   pub causes : All (IsRefusedIn workload) segs.asks
   pub seen : (who : ℕ) → AreSeen (length segs.log) (seen_in segs.log segs.asks who 1 (trace_of (courses_of who courses)))
-  pub refusals : (who : ℕ) → AreRefusals segs.log (trace_of (courses_of who courses))
+  pub failed : (who : ℕ) → AreOwnFailures segs.log (trace_of (courses_of who courses))
 
 module _ (workload : Workload) (courses : List Course) (answers : List Answer) (parties : List Party) (hall : HallView)
-    (heaps : List HeapView) (segs : SegsView) (tables : List Table) (so : SoFar workload courses parties hall)
+    (heaps : List HeapView) (segs : SegsView) (tables : List Table) (given : IsGiven workload) (so : SoFar workload courses parties hall)
     (is : IsAtEnd workload courses answers parties hall heaps segs tables) (known : AreKnown workload courses so.now.segs) where
   joint_end : IsSoloEnd workload answers heaps so.now.segs tables
   joint_end = record {
@@ -49,7 +52,6 @@ module _ (workload : Workload) (courses : List Course) (answers : List Answer) (
       calls = calls_are workload courses parties hall so heaps segs is.names is.values;
       segs_sound = segs_sound workload courses parties hall so;
       pools = pools_are workload courses parties hall so;
-      external = none_external workload courses parties hall so;
       asks = asks_of_each workload courses parties hall so;
       outcomes = asked_of_traces so.now.segs.log (λ who. trace_of (courses_of who courses)) so.now.segs.asks
           (outcomes_so_far workload courses parties hall so);
@@ -58,8 +60,10 @@ module _ (workload : Workload) (courses : List Course) (answers : List Answer) (
       causes = known.causes;
       settled = none_growing workload courses parties hall so;
       seen = known.seen;
-      refusals = known.refusals;
-      awaited = none_awaits workload.participants courses heaps so.built;
+      failed = known.failed;
+      awaited = awaited_in_order workload.participants courses
+          (subst (AwaitEarlier workload.participants) (sym is.lines) given.awaits) heaps
+          (in_order workload courses parties hall so heaps segs is.names is.values);
       grown = grown_are workload courses parties hall so heaps segs is.names is.values;
       gone = gone_so_far workload courses parties hall so heaps (calls_are workload courses parties hall so heaps segs is.names is.values)
           (λ who below. no_calls_beyond workload courses parties hall so heaps segs is.names is.values who);

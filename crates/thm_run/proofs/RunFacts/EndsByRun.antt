@@ -6,7 +6,7 @@ use Rattle.hp_hall.specs.Mail.{MailStep}
 use Rattle.hp_script.specs.declared.workload.Workload.{Workload}
 use Rattle.hp_segs.specs.SegsView.{SegsView}
 use Rattle.hp_proc.specs.Doing.{Done}
-use Rattle.hp_proc.specs.Seen.{AreRefusals}
+use Rattle.hp_proc.specs.Handed.{AreOwnFailures}
 use Rattle.hp_weave.specs.Deeds.{Gathering}
 use Rattle.hp_weave.specs.Holds.{Hold}
 use Rattle.thm_run.proofs.FailuresNamed.Refusals.{refusals}
@@ -39,15 +39,15 @@ module _ (workload : Workload) (did : ℕ → List Done) (first last : Gathering
   abbrev now : GlobalState
   now = with_boxes run.0 last
 
-  refused : (who : ℕ) → AreRefusals last.value.log (did who)
+  refused : (who : ℕ) → AreOwnFailures last.value.log (did who)
   refused who =
       ⊎_elim
       (λ (below : who < count).
       let its = seat_at last.seats who (omega (arith, below, count_along run.1, came.is_first.seats)) in
-      subst (AreRefusals last.value.log) (sym (came.did_so who its.seat its.there))
+      subst (AreOwnFailures last.value.log) (sym (came.did_so who its.seat its.there))
       (refusals count workload.absent workload.pools.items start now came.is_first run.1 who its.seat its.there))
       (λ (beyond : count ≤ who).
-      subst (AreRefusals last.value.log) (sym (came.nobody_else who beyond)) (none_refused last.value.log))
+      subst (AreOwnFailures last.value.log) (sym (came.nobody_else who beyond)) (none_refused last.value.log))
       (cases_lt who count)
 
   has_by_run : HasByRun workload did last.value
@@ -56,14 +56,11 @@ module _ (workload : Workload) (did : ℕ → List Done) (first last : Gathering
     pools =
         causes.pools_stay count workload.absent workload.pools.items start now came.is_first run.1 workload.deadline came.waits
         ∙ ap (λ (segs : SegsView). segs.pools) came.is_first.segs;
-    external =
-        causes.ranges_stay count workload.absent workload.pools.items start now came.is_first run.1 workload.deadline came.waits
-        ∙ ap (λ (segs : SegsView). segs.ranges) came.is_first.segs;
     asked_for = causes.asked_for count workload.absent workload.pools.items start now came.is_first run.1 workload.deadline came.waits;
     causes =
         causes.causes count workload.absent workload.pools.items start now came.is_first run.1 workload.deadline came.waits workload refl
         refl came.ended;
-    refusals = refused;
+    failed = refused;
     gone = λ heaps kept within.
         gone_back count workload.absent workload.pools.items start now did heaps came.is_first run.1
         (λ who seat there. came.did_so who seat there)

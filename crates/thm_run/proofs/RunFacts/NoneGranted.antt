@@ -1,5 +1,5 @@
 -- A line that is answered that there is no memory was granted none: the heap to which a run came would have found an element in it.
-use Rattle.std.proofs.Common.{◌≡◌, ◌==◌, ◌∙◌, ℕ, ◌+◌, Bool, false, true, cond, List, [], ◌∷◌, ◌++◌, length, Option, Some, IsSome, slice_get, get_or, refl, ap, sym, subst, append_assoc}
+use Rattle.std.proofs.Common.{◌≡◌, ◌==◌, ◌∙◌, ℕ, ◌+◌, Bool, false, true, cond, List, [], ◌∷◌, ◌++◌, length, Option, Some, IsSome, slice_get, get_or, refl, ap, sym, subst, append_assoc, map}
 use Rattle.std.specs.List.{list_any}
 use Rattle.std.proofs.lemmas.Bool.{eq-eqb, false_from_ne_true}
 use Rattle.hp_base.specs.Place.{place_of}
@@ -29,13 +29,14 @@ use Rattle.hp_segs.specs.declared.ask.Ask.{Ask}
 use Rattle.hp_segs.specs.declared.list_info.ListInfo.{ListInfo}
 use Rattle.hp_proc.specs.Courses.{Standing, calls_in, numbered_in}
 use Rattle.hp_proc.specs.Doing.{Done}
-use Rattle.hp_proc.specs.Doing.Done.{Asked, Called}
+use Rattle.hp_proc.specs.Doing.Done.{Asked, Called, NamesChanged}
 use Rattle.hp_proc.specs.Histories.{entries_for, entry_for}
 use Rattle.hp_proc.specs.LinesDone.{Course, IsDone, IsNoneUngranted, is_grant}
 use Rattle.hp_proc.specs.Outcomes.{IsAnsweredSo}
 use Rattle.hp_serve.specs.declared.pages_asked.PagesAsked.{PagesAsked}
 use Rattle.hp_proc.proofs.Joining.{calls_on}
 use Rattle.hp_proc.proofs.LawLemmas.{entries_go_on}
+use Rattle.hp_proc.specs.SharedNames.{NamesChange}
 use Rattle.thm_run.proofs.GrownHeaps.GrantedAsks.{granted_so}
 use Rattle.thm_run.proofs.GrownHeaps.GrownChoice.{AllowsPage, grown_answers}
 use Rattle.thm_run.proofs.TracesTold.OrderlyLines.{line_in_order}
@@ -79,20 +80,21 @@ granted_later (Asked pages (Some run)) trace leaves some = absurd leaves
 granted_later _ trace leaves some = some
 
 -- a line's trace with a grant ends with it
-ends_granted : (given : Answer) (asked : Bool) (trace : List Done) → IsOrderly true given asked trace → list_any is_grant trace ≡ true
-    → EndsGranted given trace
-ends_granted given _ _ (ends asked) some = cc
-ends_granted given _ _ (goes_on asked done trace leaves rest) some =
-    one_more given done trace (ends_granted given (asked_behind asked done) trace rest (granted_later done trace leaves some))
-ends_granted given _ _ (tells heap address run) some = cc
-ends_granted given _ _ (is_granted asked pages run tag grown found allows last) some = record {
+ends_granted : (given : Answer) (asked : Bool) (trace : List Done) → given ≡ answer.None → IsOrderly true given asked trace
+    → list_any is_grant trace ≡ true → EndsGranted given trace
+ends_granted given _ _ no_memory (ends asked) some = cc
+ends_granted given _ _ no_memory (goes_on asked done trace leaves rest) some =
+    one_more given done trace (ends_granted given (asked_behind asked done) trace no_memory rest (granted_later done trace leaves some))
+ends_granted given _ _ no_memory (tells heap address run ended) some = cc
+ends_granted given _ _ no_memory (is_granted asked pages run tag grown found changes allows last only) some = record {
   front = [];
   asked = pages;
   run = run;
   tag = tag;
   grown = grown;
   found = found;
-  are = refl;
+  are = ap (λ (changes : List NamesChange). Asked pages (Some run) ∷ Called pages.heap (call.Grow run) grown
+      ∷ Called pages.heap (call.Alloc pages.request tag) found ∷ map NamesChanged changes) (only no_memory);
   allows = allows;
   last = last;
 }
@@ -209,6 +211,6 @@ module _ (who calls : ℕ) (trace : List Done)
   none_granted workload standing course same done no_memory =
       let orderly = line_in_order course.line course.line.act done.facts course.trace course.answer done.does in
       false_from_ne_true (list_any is_grant course.trace) (λ some.
-      let ended = ends_granted course.answer false course.trace orderly some in
+      let ended = ends_granted course.answer false course.trace no_memory orderly some in
       let finds = search_finds ended.front ended.asked ended.run ended.tag ended.grown ended.found (sym same ∙ ended.are) ended.allows in
       ended.last no_memory finds)

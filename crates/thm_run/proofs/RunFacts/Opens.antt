@@ -35,10 +35,14 @@ use Rattle.hp_base.specs.Telling.{Listener}
 use Rattle.thm_run.specs.Registered.{IsRegisteredBy}
 use Rattle.hp_serve.specs.Party.{Party, first_core}
 use Rattle.hp_proc.specs.Progress.{MayDo, moment_of}
-use Rattle.hp_serve.specs.Tied.{IsTied, part_of}
+use Rattle.hp_proc.specs.OwnChunks.{own_chunk}
+use Rattle.hp_serve.specs.Tied.{HasChunks, IsTied, no_chunks, part_of}
+use Rattle.hp_serve.proofs.Attached.{nothing_marked}
+use Rattle.hp_serve.proofs.Tying.{tied_marks}
 use Rattle.hp_proc.proofs.Joining.{asked_none}
 use Rattle.hp_proc.proofs.Unarmed.{all_alike}
-use Rattle.thm_run.proofs.NamesStay.{opened_names}
+use Rattle.thm_run.proofs.RunFacts.Unmarked.{first_unmarked}
+use Rattle.thm_run.proofs.SlotAlong.{opened_names}
 use Rattle.thm_run.proofs.SeatFacts.FirstSegs.{armed_first, member_first, present_declared, sound_first}
 use Rattle.thm_run.specs.Seats.{Seat}
 use Rattle.thm_run.specs.SoFar.{AreFirstHeaps, AreSoundNames, IsOfDeclared, IsSoFarFor, SoFar, doer_of, first_hall, first_names, first_segs, standing_of}
@@ -92,7 +96,7 @@ part_first false = refl
 
 -- an empty table is tied to a hall that opens
 tied_first : (log : List LogRecord) (own : Own) (joined : Bool) (maps : MapsView) → log ≡ [] → own ≡ after_ack 0 → maps.rows ≡ []
-    → maps.number ≡ 0 → MAX_SEGMENTS ≤ maps.capacity → IsTied log own joined maps
+    → maps.number ≡ 0 → MAX_SEGMENTS ≤ maps.capacity → IsTied log own no_chunks joined maps
 tied_first log own joined maps none nothing empty first room =
     let part : part_of joined own ≡ after_ack 0 = ap (part_of joined) nothing ∙ part_first joined in
     record {
@@ -102,7 +106,7 @@ tied_first log own joined maps none nothing empty first room =
         rows = subst (λ (own : Own). table_in maps.rows ≡ rows_known log own) (sym part) (ap table_in empty);
         behind = omega (arith, ap (λ (own : Own). own.number) part, ap (λ (own : Own). own.unmapped) part);
         seen = omega (arith, ap (λ (own : Own). own.unmapped) part);
-        chunks = ap chunk_rows empty;
+        chunks = subst (HasChunks no_chunks) (sym (ap chunk_rows empty)) nothing_marked;
         room = room;
       };
     }
@@ -220,10 +224,14 @@ module _ (workload : Workload) (held : List HeldHeap) (given : IsGiven workload)
       asked = asked_none (seen_in opened) (heard_in opened) who 0 party.asked (ap (λ (party : Party). party.asked) is.is);
       ready = ready_first;
       tied =
-          tied_first (seen_in opened) (own_at opened who) party.joined party.maps (log_shown opened value its_segs)
+          tied_marks (seen_in opened) (own_at opened who) no_chunks (λ heap. (part_in opened who heap).marked) party.joined party.maps
+          (first_unmarked workload held first_heaps who)
+          (tied_first (seen_in opened) (own_at opened who) party.joined party.maps (log_shown opened value its_segs)
           (all_alike (after_ack 0) workload.participants who) (ap (λ (maps : MapsView). maps.rows) its_maps ∙ is.rows)
           (ap (λ (maps : MapsView). maps.number) its_maps ∙ is.number)
-          (omega (arith, ap (λ (maps : MapsView). maps.capacity) its_maps, is.room));
+          (omega (arith, ap (λ (maps : MapsView). maps.capacity) its_maps, is.room)));
+      left = λ out. first_unmarked workload held first_heaps who;
+      chunks = λ heap. ap (map (own_chunk heap)) (first_unmarked workload held first_heaps who heap);
     }
 
   module _ (parties : List Party) (count : length parties ≡ workload.participants)
@@ -257,7 +265,10 @@ module _ (workload : Workload) (held : List HeldHeap) (given : IsGiven workload)
       names_sound = named;
       course = course_same opened;
       home = opened_home value (first_names workload) workload.participants held many;
+      names = first_names workload;
       named = opened_names value (first_names workload) held MAX_HEAPS many;
+      opened = refl;
+      leave = refl;
       first = here;
       now = here;
       is_first = is_first;
@@ -282,6 +293,7 @@ module _ (workload : Workload) (held : List HeldHeap) (given : IsGiven workload)
           (sym (ap (λ (party : Party). party.listeners) (are who party at).is))
           (All-nil (λ (listener : Listener).
           IsRegisteredBy who (own_at opened who).number (opening_standing workload who) value.log value.asks [] listener.name listener.since));
+      told = λ who below. all_alike 0 workload.participants who;
       among = All-nil (λ (course : Course). Contains workload.lines.items course.line);
       built = All-nil (IsOfDeclared workload.participants);
       done = λ who below. tt;

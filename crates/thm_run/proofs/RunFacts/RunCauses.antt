@@ -132,9 +132,6 @@ module _ (count absent : ℕ) (pools : List PoolLine) (first now : GlobalState) 
         fails = subst (λ (found : Option Seat). FailsFor (may_fail_in found) call addr got entry.ask) one.there own.1;
       }
 
-  -- the pools and the external memory stay
+  -- the pools stay
   pub pools_stay : now.segs.pools ≡ first.segs.pools
   pools_stay = (changes_stay count deadline may_fail anything first.segs now.segs changed).pools
-
-  pub ranges_stay : now.segs.ranges ≡ first.segs.ranges
-  ranges_stay = (changes_stay count deadline may_fail anything first.segs now.segs changed).ranges

@@ -62,12 +62,24 @@ module _ (deadline : ℕ) (may_fail : ℕ → Option (List FailingCall)) (who : 
       record { me = was.me; its_deadline = was.its_deadline; its_may_fail = was.its_may_fail; waits = was.waits; judged = was.judged }
   quietly_steady (Quietly.calls seat heap call answer none) was =
       record { me = was.me; its_deadline = was.its_deadline; its_may_fail = was.its_may_fail; waits = was.waits; judged = was.judged }
-  quietly_steady (Quietly.notes seat standing) was =
+  quietly_steady (Quietly.notes seat elements chunks) was =
       record { me = was.me; its_deadline = was.its_deadline; its_may_fail = was.its_may_fail; waits = was.waits; judged = was.judged }
   quietly_steady (Quietly.reads_names seat names) was =
       record { me = was.me; its_deadline = was.its_deadline; its_may_fail = was.its_may_fail; waits = was.waits; judged = was.judged }
   quietly_steady (Quietly.reads_stats seat heap counted) was =
       record { me = was.me; its_deadline = was.its_deadline; its_may_fail = was.its_may_fail; waits = was.waits; judged = was.judged }
+  quietly_steady (Quietly.changes_names seat change) was =
+      record { me = was.me; its_deadline = was.its_deadline; its_may_fail = was.its_may_fail; waits = was.waits; judged = was.judged }
+  quietly_steady (Quietly.sees_heap seat heap history) was =
+      record { me = was.me; its_deadline = was.its_deadline; its_may_fail = was.its_may_fail; waits = was.waits; judged = was.judged }
+  quietly_steady (Quietly.plans_range seat addr len page plan) was =
+      record { me = was.me; its_deadline = was.its_deadline; its_may_fail = was.its_may_fail; waits = was.waits; judged = was.judged }
+  quietly_steady (Quietly.maps_chunk seat chunk maps ended is) was =
+      let may_fails = is.others.may_fail ∙ was.its_may_fail in
+      record { me = was.me; its_deadline = was.its_deadline; its_may_fail = may_fails; waits = was.waits; judged = was.judged }
+  quietly_steady (Quietly.leaves_chunk seat chunk maps is) was =
+      let may_fails = is.others.may_fail ∙ was.its_may_fail in
+      record { me = was.me; its_deadline = was.its_deadline; its_may_fail = may_fails; waits = was.waits; judged = was.judged }
   quietly_steady (Quietly.ends_line seat deed given) was = record {
     me = was.me;
     its_deadline = was.its_deadline;
@@ -100,6 +112,7 @@ module _ (deadline : ℕ) (may_fail : ℕ → Option (List FailingCall)) (who : 
 
   pub handles_steady : {count : ℕ} {old new : Seat} {taken given : SegsView} → Handles count who old new taken given → Steady old → Steady new
   handles_steady (Handles.looks seat segs) was = was
+  handles_steady (Handles.moves_ranges seat segs ranges moves) was = was
   handles_steady (Handles.steps seat segs event core is its knows denied may) was =
       let waits = waits_on denied event core segs (was.waits core its) in
       record { me = was.me; its_deadline = was.its_deadline; its_may_fail = was.its_may_fail; waits = waits; judged = was.judged }
@@ -128,7 +141,7 @@ module _ (deadline : ℕ) (may_fail : ℕ → Option (List FailingCall)) (who : 
     waits = subst (WaitsFor deadline) (sym (ap (λ party. party.core) tried.after_is)) was.waits;
     judged = subst (AreOfLines seat.lines) (sym (tried_validators (length segs.log) caught seat.standing)) was.judged;
   }
-  handles_steady (Handles.detaches seat segs told secondary heard) was =
+  handles_steady (Handles.detaches seat segs told secondary none heard) was =
       record { me = was.me; its_deadline = was.its_deadline; its_may_fail = was.its_may_fail; waits = was.waits; judged = was.judged }
 
 -- an ask tells of no mapping
@@ -157,6 +170,8 @@ module _ (count deadline : ℕ) (may_fail : ℕ → Option (List FailingCall)) (
       → IsSteady deadline may_fail who old → (who ≡ 0 → IsWithin (denials_of old.standing) denies) → IsSound taken → HasArmedGrowth taken
       → Changes count deadline may_fail denies taken given
   handles_changes (Handles.looks seat segs) was within sound armed = stays segs
+  handles_changes (Handles.moves_ranges seat segs ranges moves) was within sound armed =
+      change.ranges_move count deadline may_fail denies segs ranges
   handles_changes (Handles.steps seat segs event core is its knows denied may) was within sound armed =
       coordinates denied event core segs (was.waits core its) sound (known_reason count may_fail seat event knows)
       (may_within (denials_of seat.standing) denies (within is) (judged_at event core (with_room segs)) denied may)
@@ -181,7 +196,7 @@ module _ (count deadline : ℕ) (may_fail : ℕ → Option (List FailingCall)) (
   handles_changes (Handles.cuts seat segs heap addr run) was within sound armed = change.retires count deadline may_fail denies segs heap run
   handles_changes (Handles.attaches seat segs caught after tried) was within sound armed =
       change.attaches count deadline may_fail denies segs who declared caught
-  handles_changes (Handles.detaches seat segs told secondary heard) was within sound armed = change.detaches count deadline may_fail denies segs who secondary
+  handles_changes (Handles.detaches seat segs told secondary none heard) was within sound armed = change.detaches count deadline may_fail denies segs who secondary
 
 -- all wait so long, and their mappers may fail at these calls
 abbrev pub AreSetSo : ℕ → (ℕ → Option (List FailingCall)) → GlobalState → Type 0

@@ -1,11 +1,11 @@
 -- How far a workload was run, in a later hall: what its participants came to and what lines left, put together.
-use Rattle.std.proofs.Common.{◌≡◌, ◌∙◌, ℕ, ◌<◌, List, ◌++◌, length, Some, refl, ap, sym, arith}
+use Rattle.std.proofs.Common.{◌≡◌, ◌∙◌, ℕ, ◌<◌, false, List, [], ◌++◌, length, Some, refl, ap, sym, arith}
 use Rattle.std.specs.Prelude.{Contains, slice_get, slice_index}
 use Rattle.std.specs.List.{All}
 use Rattle.std.proofs.lemmas.Option.{slice_get_within, same_Some}
 use Rattle.hp_base.specs.declared.limits.TheConstants.{MAX_HEAPS}
 use Rattle.hp_plain.specs.Course.{IsCourse, course_then}
-use Rattle.hp_plain.specs.HallView.{HallView, heard_in, history_in, own_at, part_in, seen_in, slot_at}
+use Rattle.hp_plain.specs.HallView.{HallView, heard_in, history_in, lines_at, own_at, part_in, seen_in, slot_at}
 use Rattle.hp_plain.specs.Keeping.{values_in}
 use Rattle.hp_plain.specs.Opening.{AreHome}
 use Rattle.hp_hall.specs.declared.kept.Kept.TheVariants.{Names}
@@ -17,14 +17,19 @@ use Rattle.hp_proc.specs.Doing.{Done}
 use Rattle.hp_proc.specs.Ends.{history_by, none_made}
 use Rattle.hp_heap.specs.HistoryLaws.{runs_grown}
 use Rattle.hp_segs.specs.GrantedRuns.{granted_runs}
+use Rattle.hp_proc.specs.Handing.{shared_of}
+use Rattle.hp_proc.specs.Heaps.{sockets_of}
 use Rattle.hp_proc.specs.Histories.{entries_for}
 use Rattle.hp_proc.specs.LinesDone.{AreDone, Course, courses_of, opening_standing}
+use Rattle.hp_proc.specs.OneThread.{names_by}
+use Rattle.hp_proc.specs.OwnChunks.{AreMarkedAs}
 use Rattle.hp_serve.specs.Party.{Party}
 use Rattle.hp_proc.specs.Progress.{MayDo, moment_of}
 use Rattle.hp_proc.specs.Seen.{AreSeen, seen_by_lines}
 use Rattle.hp_serve.specs.Tied.{IsTied}
+use Rattle.hp_zone.specs.declared.names.Names.{Names as NamesView}
 use Rattle.thm_run.specs.Seats.{EndedLine, Seat}
-use Rattle.thm_run.specs.SoFar.{AreRegistered, IsOfDeclared, IsSoFarFor, SoFar, doer_of, first_hall, first_names, standing_of, ended_for, trace_for}
+use Rattle.thm_run.specs.SoFar.{AreRegistered, IsOfDeclared, IsSoFarFor, SoFar, doer_of, first_hall, standing_of, ended_for, trace_for}
 use Rattle.thm_run.specs.Together.{GlobalState, RunsByMail}
 use Rattle.thm_run.proofs.RunFacts.Attached.{AreAsLeft, IsAsLeft}
 use Rattle.thm_run.proofs.SeatFacts.Roster.{AreEnrolled}
@@ -39,9 +44,11 @@ pub record IsKnownFor (workload : Workload) (courses : List Course) (hall : Hall
   pub entries : (heap : ℕ) → (part_in hall who heap).entries ≡ entries_for who heap 1 (calls_in (trace_for who courses))
   pub asked : AreAsked (seen_in hall) (heard_in hall) who 0 party.asked (trace_for who courses)
   pub ready : MayDo (moment_of (doer_of workload who courses party) (part_in hall who) (seen_in hall) (heard_in hall))
-  pub tied : IsTied (seen_in hall) (own_at hall who) party.joined party.maps
+  pub tied : IsTied (seen_in hall) (own_at hall who) (λ heap. (part_in hall who heap).marked) party.joined party.maps
+  pub left : party.joined ≡ false → (heap : ℕ) → (part_in hall who heap).marked ≡ []
+  pub chunks : (heap : ℕ) → AreMarkedAs heap (part_in hall who heap).marked (standing_of workload who courses).chunks
 
--- what lines left, and that they left the names as they were
+-- what lines left, in the names too, and that they were told to be done
 pub record AreLinesThere (workload : Workload) (courses : List Course) (hall : HallView) (at : GlobalState) : Type 0 where
   pub among : All (λ course. Contains workload.lines.items course.line) courses
   pub built : All (IsOfDeclared workload.participants) courses
@@ -50,7 +57,11 @@ pub record AreLinesThere (workload : Workload) (courses : List Course) (hall : H
   pub seen : AreSeen (length at.segs.log) (seen_by_lines at.segs.log at.segs.asks none_made courses)
   pub grown : (index : ℕ) → index < MAX_HEAPS
       → runs_grown (history_by index none_made courses) ≡ granted_runs index at.segs.asks 1 at.segs.log
-  pub named : slice_get (values_in hall) NAMES_SLOT ≡ Some (Names (first_names workload))
+  pub names : NamesView
+  pub named : slice_get (values_in hall) NAMES_SLOT ≡ Some (Names names)
+  pub opened : names.heaps.sockets ≡ sockets_of workload.pools.items
+  pub leave : shared_of names ≡ names_by courses
+  pub told : (who : ℕ) → who < workload.participants → lines_at hall who ≡ length (courses_of who courses)
 
 module _ (workload : Workload) (courses later : List Course) (parties behind : List Party) (old new : HallView)
     (so : SoFar workload courses parties old) (course : IsCourse old new) (home : AreHome new) (size : length behind ≡ length parties)
@@ -80,6 +91,8 @@ module _ (workload : Workload) (courses later : List Course) (parties behind : L
         asked = its.asked;
         ready = its.ready;
         tied = its.tied;
+        left = its.left;
+        chunks = its.chunks;
       }
 
   pub so_far_on : RunsByMail workload.participants so.first there → AreEnrolled there → AreAsLeft there
@@ -96,7 +109,10 @@ module _ (workload : Workload) (courses later : List Course) (parties behind : L
     names_sound = so.names_sound;
     course = course_then (first_hall workload so.held) old new so.course course;
     home = home;
+    names = lines.names;
     named = lines.named;
+    opened = lines.opened;
+    leave = lines.leave;
     first = so.first;
     now = there;
     is_first = so.is_first;
@@ -122,6 +138,7 @@ module _ (workload : Workload) (courses later : List Course) (parties behind : L
         let own : last.it.party ≡ after = same_Some last.it.party after (sym (came.were who last.it last.there).2 ∙ at) in
         so_far_for who after last.it own (came.were who last.it last.there).4 (known who after at) (left who last.it last.there);
     registered = registered;
+    told = lines.told;
     among = lines.among;
     built = lines.built;
     done = lines.done;

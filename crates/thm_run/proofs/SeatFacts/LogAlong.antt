@@ -74,6 +74,7 @@ core_records denied event core segs armed =
 handles_records : {count who : ℕ} {old new : Seat} {taken given : SegsView} → Handles count who old new taken given → HasArmedGrowth taken
     → HasRecords taken.log given.log
 handles_records (Handles.looks seat segs) armed = same_records segs.log segs.log refl
+handles_records (Handles.moves_ranges seat segs ranges moves) armed = same_records segs.log segs.log refl
 handles_records (Handles.steps seat segs event core is its knows denied may) armed = core_records denied event core segs armed
 handles_records (Handles.maps seat segs caught table now core is its caught_up) armed = core_records None (SelfMapped caught now) core segs armed
 handles_records {count} {who} (Handles.follows seat segs caught table member caught_up) armed =
@@ -87,7 +88,7 @@ handles_records {count} {who} (Handles.settles seat segs since now late) armed =
 handles_records (Handles.cuts seat segs heap addr run) armed = same_records segs.log segs.log refl
 handles_records {count} {who} (Handles.attaches seat segs caught after tried) armed =
     same_records segs.log _ (attaching_leaves who caught segs).log
-handles_records (Handles.detaches seat segs told secondary heard) armed = same_records segs.log segs.log refl
+handles_records (Handles.detaches seat segs told secondary none heard) armed = same_records segs.log segs.log refl
 
 pub step_records : (count : ℕ) (old new : GlobalState) → Steps count old new → HasArmedGrowth old.segs → HasRecords old.segs.log new.segs.log
 step_records count _ _ (Steps.quietly at who old new there did) armed = same_records at.segs.log at.segs.log refl

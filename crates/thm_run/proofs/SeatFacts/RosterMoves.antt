@@ -17,7 +17,7 @@ use Rattle.hp_segs.specs.Steps.{after_claim}
 use Rattle.hp_serve.specs.Attaching.{after_attaching}
 use Rattle.hp_serve.specs.Coordinating.{stepping, with_room}
 use Rattle.hp_proc.specs.Doing.{Done}
-use Rattle.hp_proc.specs.Doing.Done.{Asked, Called, CaughtUp, GaveUp, Looked, NamesRead, StatsRead}
+use Rattle.hp_proc.specs.Doing.Done.{Asked, Called, CaughtUp, ChunkMapped, GaveUp, HeapSeen, Looked, NamesChanged, NamesRead, RangePlanned, StatsRead}
 use Rattle.thm_run.specs.Seats.{Handles, Mails, Quietly, Seat}
 use Rattle.thm_run.proofs.RunFacts.CallCases.{claim_holds, withdraw_holds}
 use Rattle.thm_run.proofs.Following.{catching_by}
@@ -58,11 +58,20 @@ quietly_moves who roster (Quietly.hears seat answered) = stays refl refl refl
 quietly_moves who roster (Quietly.counts seat sent) = stays refl refl refl
 quietly_moves who roster (Quietly.calls seat heap call answer none) =
     stays refl refl (tries_same seat.trace (Called heap call answer ∷ []) refl)
-quietly_moves who roster (Quietly.notes seat standing) = stays refl refl refl
+quietly_moves who roster (Quietly.notes seat elements chunks) = stays refl refl refl
 quietly_moves who roster (Quietly.reads_names seat names) =
     stays refl refl (tries_same seat.trace (NamesRead names ∷ []) refl)
 quietly_moves who roster (Quietly.reads_stats seat heap counted) =
     stays refl refl (tries_same seat.trace (StatsRead heap counted ∷ []) refl)
+quietly_moves who roster (Quietly.changes_names seat change) =
+    stays refl refl (tries_same seat.trace (NamesChanged change ∷ []) refl)
+quietly_moves who roster (Quietly.sees_heap seat heap history) =
+    stays refl refl (tries_same seat.trace (HeapSeen heap history ∷ []) refl)
+quietly_moves who roster (Quietly.plans_range seat addr len page plan) =
+    stays refl refl (tries_same seat.trace (RangePlanned addr len page plan ∷ []) refl)
+quietly_moves who roster (Quietly.maps_chunk seat chunk maps ended is) =
+    stays refl refl (tries_same seat.trace (ChunkMapped chunk ended ∷ []) refl)
+quietly_moves who roster (Quietly.leaves_chunk seat chunk maps is) = stays refl refl refl
 quietly_moves who roster (Quietly.ends_line seat deed given) = stays refl refl refl
 
 pub mails_moves : {who : ℕ} {old new : Seat} {step : MailStep} → (roster : List Bool) → Mails who old new step
@@ -103,6 +112,7 @@ attach_moves who old new segs (caught.Elsewhere row call got) is tries = fails r
 pub handles_moves : {count who : ℕ} {old new : Seat} {taken given : SegsView} → Handles count who old new taken given → IsSound taken
     → MovesSeat who old new taken.roster given.roster
 handles_moves (Handles.looks seat segs) sound = stays refl refl refl
+handles_moves (Handles.moves_ranges seat segs ranges moves) sound = stays refl refl refl
 handles_moves (Handles.steps seat segs event core is its knows denied may) sound = stays (core_roster denied event core segs sound) refl refl
 handles_moves (Handles.maps seat segs ended table now core is its caught_up) sound =
     serves (is_done ended) (core_roster None (SelfMapped ended now) core segs sound)
@@ -119,4 +129,4 @@ handles_moves (Handles.cuts seat segs heap addr run) sound = stays refl refl (tr
 handles_moves {count} {who} (Handles.attaches seat segs ended after tried) sound =
     attach_moves who seat _ segs ended (ap (λ party. party.joined) tried.after_is)
     (tries_both seat.trace (Looked (length segs.log) ∷ CaughtUp (length segs.log) ended ∷ []))
-handles_moves (Handles.detaches seat segs told secondary heard) sound = leaves refl refl refl
+handles_moves (Handles.detaches seat segs told secondary none heard) sound = leaves refl refl refl

@@ -1,6 +1,6 @@
 -- How a line's trace goes, whatever the line is: a run that is granted comes to its heap at once, which is searched again, and with that the
 -- line ends; a run that is cut is given up at once, before anything was asked for or looked at, and with that the line ends too.
-use Rattle.std.proofs.Common.{◌≡◌, ℕ, Bool, true, false, not, ◌&&◌, ◌||◌, cond, List, [], ◌∷◌, filter, Option, Some, None, refl, sym, subst, inl, inr}
+use Rattle.std.proofs.Common.{◌≡◌, ℕ, Bool, true, false, not, ◌&&◌, ◌||◌, cond, List, [], ◌∷◌, filter, map, Option, Some, None, refl, sym, subst, inl, inr}
 use Rattle.std.specs.Prelude.{⊤}
 use Rattle.std.specs.List.{AllByRecursion}
 use Rattle.std.proofs.lemmas.Bool.{or_cases, or_right}
@@ -21,9 +21,10 @@ use Rattle.hp_script.specs.declared.answer.Answer.{Answer}
 use Rattle.hp_script.specs.declared.answer.Answer.TheVariants as answer
 use Rattle.hp_proc.specs.Allocating.{asking, first_flags, growing, searching_again, serving, trying, unless_found, with_flags, with_run}
 use Rattle.hp_proc.specs.Doing.{Deed, Doing, Done, Given, Goes, Leads, gave}
-use Rattle.hp_proc.specs.Doing.Done.{Asked, Called, CaughtUp, GaveUp, Looked}
+use Rattle.hp_proc.specs.Doing.Done.{Asked, Called, CaughtUp, GaveUp, Looked, NamesChanged, StatsRead}
 use Rattle.hp_proc.specs.Heaps.{NamedHeap, has_pool, page_sizes_for}
 use Rattle.hp_heap.specs.HistoryLaws.{run_grown}
+use Rattle.hp_proc.specs.SharedNames.{NamesChange}
 use Rattle.hp_serve.specs.declared.pages_asked.PagesAsked.{PagesAsked}
 use Rattle.thm_run.proofs.GrownHeaps.GrownChoice.{AllowsPage}
 
@@ -37,13 +38,14 @@ CutsNone (call.Cut address) (gives.Pages run) = ⊥
 CutsNone _ _ = ⊤
 
 -- a line goes on as it likes once this is done: no heap grew or was cut, no pages were granted, no run was given up, and the log was looked at
--- and caught up with only where it may be
+-- and caught up with, and statistics that were published were read, only where they may be
 abbrev pub LeavesAll : Bool → Done → Type 0
 LeavesAll looks (Called heap call answer) = (run_grown call ≡ []) × CutsNone call answer
 LeavesAll looks (Asked pages (Some run)) = ⊥
 LeavesAll looks (GaveUp heap run) = ⊥
 LeavesAll looks (Looked records) = looks ≡ true
 LeavesAll looks (CaughtUp to caught) = looks ≡ true
+LeavesAll looks (StatsRead heap counted) = looks ≡ true
 LeavesAll looks _ = ⊤
 
 -- whether something was asked for or looked at, once this is done
@@ -54,19 +56,20 @@ asked_behind asked (CaughtUp to caught) = true
 asked_behind asked _ = asked
 
 -- what is left of a line's trace, where the line may look at the log or not, is answered so, and asked for something or looked at it before,
--- or not: a granted run comes to the heap that it was asked for, which is searched for the request, and that is the end; where the line is
--- answered that there is no memory, the search found nothing; and a run that is cut is given up, which is the end, and only where nothing was
--- asked for
+-- or not: a granted run comes to the heap that it was asked for, which is searched for the request, and that is the end, but for changes of the
+-- names; where the line is answered that there is no memory, the search found nothing, and no name was changed; and a run that is cut is given
+-- up, which is the end, and only where nothing was asked for
 pub data IsOrderly (looks : Bool) (given : Answer) : Bool → List Done → Type 0 where
   ends : (asked : Bool) → IsOrderly looks given asked []
   goes_on : (asked : Bool) (done : Done) (trace : List Done) → LeavesAll looks done → IsOrderly looks given (asked_behind asked done) trace
       → IsOrderly looks given asked (done ∷ trace)
-  tells : (heap address : ℕ) (run : Run)
+  tells : (heap address : ℕ) (run : Run) → given ≡ answer.Done
       → IsOrderly looks given false (Called heap (call.Cut address) (gives.Pages run) ∷ GaveUp heap run ∷ [])
-  is_granted : (asked : Bool) (pages : PagesAsked) (run : Run) (tag : Tag) (grown found : HeapAnswer)
-      → AllowsPage pages.request.flags pages.page → (given ≡ answer.None → IsAddress found → ⊥)
+  is_granted : (asked : Bool) (pages : PagesAsked) (run : Run) (tag : Tag) (grown found : HeapAnswer) (changes : List NamesChange)
+      → AllowsPage pages.request.flags pages.page → (given ≡ answer.None → IsAddress found → ⊥) → (given ≡ answer.None → changes ≡ [])
       → IsOrderly looks given asked
-      (Asked pages (Some run) ∷ Called pages.heap (call.Grow run) grown ∷ Called pages.heap (call.Alloc pages.request tag) found ∷ [])
+      (Asked pages (Some run) ∷ Called pages.heap (call.Grow run) grown ∷ Called pages.heap (call.Alloc pages.request tag) found
+      ∷ map NamesChanged changes)
 
 -- so is each trace that leads through a tree to its end
 abbrev pub GoesOrderly : Bool → Bool → Doing → Type 0
@@ -132,7 +135,7 @@ module _ (looks asked : Bool) (pages : PagesAsked) (tag : Tag) (run : Run) (give
       subst
       (λ trace. IsOrderly looks given asked
       (Asked pages (Some run) ∷ Called pages.heap (call.Grow run) grown ∷ Called pages.heap (call.Alloc pages.request tag) found ∷ trace))
-      (sym none) (is_granted asked pages run tag grown found allows (λ no_memory address. finds_none here no_memory address))
+      (sym none) (is_granted asked pages run tag grown found [] allows (λ no_memory address. finds_none here no_memory address) (λ no_memory. refl))
     where
       finds_none : {found : HeapAnswer} → Leads (unless_found (Doing.Ended answer.None) found) [] (Doing.Ended given) → given ≡ answer.None
           → IsAddress found → ⊥

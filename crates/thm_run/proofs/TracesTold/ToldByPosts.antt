@@ -96,6 +96,7 @@ module _ (count : ℕ) (steps : ℕ → List MailStep) where
   handles_told : {who : ℕ} {old new : Seat} {taken given : SegsView} → Handles count who old new taken given → HasArmedGrowth taken
       → (who ≡ 0 → HoldsTold old) → (who ≡ 0 → ArePosted steps old) → FreedAreTold steps taken → FreedAreTold steps given
   handles_told (Handles.looks seat segs) growth held posted told = told
+  handles_told (Handles.moves_ranges seat segs ranges moves) growth held posted told = told
   handles_told (Handles.steps seat segs event core zero has knows denied may) growth held posted told =
       logged_told (with_room segs) (stepping denied event core segs).segs
       (step_logs WasTold (λ socket total. denied) event core (with_room segs) (brings_told seat event (posted zero) knows) (held zero core has) growth).asks
@@ -115,11 +116,12 @@ module _ (count : ℕ) (steps : ℕ → List MailStep) where
   handles_told (Handles.cuts seat segs heap addr run) growth held posted told = told
   handles_told {who} {old} {new} {taken} {given} (Handles.attaches seat segs caught after tried) growth held posted told =
       same_told taken given (attaching_leaves who caught segs).asks told
-  handles_told (Handles.detaches seat segs listeners secondary heard) growth held posted told = told
+  handles_told (Handles.detaches seat segs listeners secondary none heard) growth held posted told = told
 
   handles_held : {who : ℕ} {old new : Seat} {taken given : SegsView} → Handles count who old new taken given → who ≡ 0 → HoldsTold old
       → ArePosted steps old → HoldsTold new
   handles_held (Handles.looks seat segs) primary held posted one is = held one is
+  handles_held (Handles.moves_ranges seat segs ranges moves) primary held posted one is = held one is
   handles_held (Handles.steps seat segs event core zero has knows denied may) primary held posted other is =
       subst (λ (core : Core). AreHeld WasTold core.held) (same_Some (stepping denied event core segs).core other is)
       (step_keeps WasTold (λ socket total. denied) event core (with_room segs) (brings_told seat event posted knows) (held core has))
@@ -133,7 +135,7 @@ module _ (count : ℕ) (steps : ℕ → List MailStep) where
   handles_held (Handles.cuts seat segs heap addr run) primary held posted one is = held one is
   handles_held (Handles.attaches seat segs caught after tried) primary held posted one is =
       held one (sym (ap (λ (party : _). party.core) tried.after_is) ∙ is)
-  handles_held (Handles.detaches seat segs told secondary heard) primary held posted one is = held one is
+  handles_held (Handles.detaches seat segs told secondary none heard) primary held posted one is = held one is
 
 -- ALL TURNS
 

@@ -15,7 +15,7 @@ use Rattle.hp_serve.specs.Frames.{Says}
 use Rattle.hp_serve.specs.Serving.{gives_segments, takes_segments}
 use Rattle.hp_proc.specs.Courses.{numbered_in}
 use Rattle.hp_proc.specs.Doing.{Done}
-use Rattle.hp_proc.specs.Doing.Done.{Asked, Called, CaughtUp, GaveUp, Looked, NamesRead, StatsRead}
+use Rattle.hp_proc.specs.Doing.Done.{Asked, Called, CaughtUp, ChunkMapped, GaveUp, HeapSeen, Looked, NamesChanged, NamesRead, RangePlanned, StatsRead}
 use Rattle.hp_weave.specs.Deeds.{Deed, Turn, deeds_of}
 use Rattle.thm_run.proofs.TracesTold.Numbers.{numbered_both}
 use Rattle.thm_run.proofs.TracesTold.Posts.{says_one}
@@ -39,13 +39,22 @@ long trace more = ap length (numbered_both trace more) ∙ length-append (number
 pub quiet_more : {old new : Seat} → Quietly old new → TakesMore old new 0
 quiet_more (Quietly.hears seat answered) = record { asked = omega arith; numbered = omega arith }
 quiet_more (Quietly.counts seat sent) = record { asked = omega arith; numbered = omega arith }
-quiet_more (Quietly.calls seat heap call answer none) =
+quiet_more (Quietly.calls seat heap call answer uncut) =
     record { asked = omega arith; numbered = long seat.trace (Called heap call answer ∷ []) }
-quiet_more (Quietly.notes seat elements) = record { asked = omega arith; numbered = omega arith }
+quiet_more (Quietly.notes seat elements chunks) = record { asked = omega arith; numbered = omega arith }
 quiet_more (Quietly.reads_names seat names) =
     record { asked = omega arith; numbered = long seat.trace (NamesRead names ∷ []) }
 quiet_more (Quietly.reads_stats seat heap counted) =
     record { asked = omega arith; numbered = long seat.trace (StatsRead heap counted ∷ []) }
+quiet_more (Quietly.changes_names seat change) =
+    record { asked = omega arith; numbered = long seat.trace (NamesChanged change ∷ []) }
+quiet_more (Quietly.sees_heap seat heap history) =
+    record { asked = omega arith; numbered = long seat.trace (HeapSeen heap history ∷ []) }
+quiet_more (Quietly.plans_range seat addr len page plan) =
+    record { asked = omega arith; numbered = long seat.trace (RangePlanned addr len page plan ∷ []) }
+quiet_more (Quietly.maps_chunk seat chunk maps ended is) =
+    record { asked = omega arith; numbered = long seat.trace (ChunkMapped chunk ended ∷ []) }
+quiet_more (Quietly.leaves_chunk seat chunk maps is) = record { asked = omega arith; numbered = omega arith }
 quiet_more (Quietly.ends_line seat deed given) = record { asked = omega arith; numbered = omega arith }
 
 -- with mailboxes none, or one by a notice
@@ -71,6 +80,7 @@ pub data HoldMore (who : ℕ) (old new : Seat) (taken : SegsView) : Type 0 where
 pub hold_more : {count who : ℕ} {old new : Seat} {taken given : SegsView} → Handles count who old new taken given
     → HoldMore who old new taken
 hold_more (Handles.looks seat segs) = HoldMore.none (none_more seat)
+hold_more (Handles.moves_ranges seat segs ranges moves) = HoldMore.none (none_more seat)
 hold_more (Handles.steps seat segs event core zero has knows denied may) = HoldMore.none (record { asked = omega arith; numbered = omega arith })
 hold_more (Handles.maps seat segs caught table now core zero has up) =
     HoldMore.none (record { asked = omega arith; numbered = omega arith })
@@ -85,7 +95,7 @@ hold_more (Handles.attaches seat segs caught after tried) =
       asked = ap (λ (party : _). party.asked) tried.after_is ∙ omega arith;
       numbered = long seat.trace (Looked (length segs.log) ∷ CaughtUp (length segs.log) caught ∷ []);
     })
-hold_more (Handles.detaches seat segs told secondary heard) = HoldMore.none (record { asked = omega arith; numbered = omega arith })
+hold_more (Handles.detaches seat segs told secondary bare heard) = HoldMore.none (record { asked = omega arith; numbered = omega arith })
 
 -- A NUMBER THAT IS TOLD
 

@@ -67,7 +67,7 @@ told_quietly at who old new told there (Quietly.counts seat sent) =
 told_quietly at who old new told there (Quietly.calls seat heap call answer none) =
     told_on at told who old new there (Done.Called heap call answer ∷ []) refl at.segs at.boxes refl
     (boxes_on at told who old new there (Done.Called heap call answer ∷ []) refl)
-told_quietly at who old new told there (Quietly.notes seat standing) =
+told_quietly at who old new told there (Quietly.notes seat elements chunks) =
     told_on at told who old new there [] (still old) at.segs at.boxes refl (boxes_on at told who old new there [] (still old))
 told_quietly at who old new told there (Quietly.reads_names seat names) =
     told_on at told who old new there (Done.NamesRead names ∷ []) refl at.segs at.boxes refl
@@ -75,6 +75,20 @@ told_quietly at who old new told there (Quietly.reads_names seat names) =
 told_quietly at who old new told there (Quietly.reads_stats seat heap counted) =
     told_on at told who old new there (Done.StatsRead heap counted ∷ []) refl at.segs at.boxes refl
     (boxes_on at told who old new there (Done.StatsRead heap counted ∷ []) refl)
+told_quietly at who old new told there (Quietly.changes_names seat change) =
+    told_on at told who old new there (Done.NamesChanged change ∷ []) refl at.segs at.boxes refl
+    (boxes_on at told who old new there (Done.NamesChanged change ∷ []) refl)
+told_quietly at who old new told there (Quietly.sees_heap seat heap history) =
+    told_on at told who old new there (Done.HeapSeen heap history ∷ []) refl at.segs at.boxes refl
+    (boxes_on at told who old new there (Done.HeapSeen heap history ∷ []) refl)
+told_quietly at who old new told there (Quietly.plans_range seat addr len page plan) =
+    told_on at told who old new there (Done.RangePlanned addr len page plan ∷ []) refl at.segs at.boxes refl
+    (boxes_on at told who old new there (Done.RangePlanned addr len page plan ∷ []) refl)
+told_quietly at who old new told there (Quietly.maps_chunk seat chunk maps ended is) =
+    told_on at told who old new there (Done.ChunkMapped chunk ended ∷ []) refl at.segs at.boxes refl
+    (boxes_on at told who old new there (Done.ChunkMapped chunk ended ∷ []) refl)
+told_quietly at who old new told there (Quietly.leaves_chunk seat chunk maps is) =
+    told_on at told who old new there [] (still old) at.segs at.boxes refl (boxes_on at told who old new there [] (still old))
 told_quietly at who old new told there (Quietly.ends_line seat deed given) =
     told_on at told who old new there [] (still old) at.segs at.boxes refl (boxes_on at told who old new there [] (still old))
 
@@ -109,6 +123,7 @@ told_mails at who old new step was told there is (Mails.speaks seat to frame bod
 -- with the segment value nobody fetches
 pub none_fetched : {count who : ℕ} {old new : Seat} {taken given : SegsView} → Handles count who old new taken given → new.fetched ≡ old.fetched
 none_fetched (Handles.looks seat segs) = refl
+none_fetched (Handles.moves_ranges seat segs ranges moves) = refl
 none_fetched (Handles.steps seat segs event core zero has knows denied may) = refl
 none_fetched (Handles.maps seat segs caught table now core zero has up) = refl
 none_fetched (Handles.follows seat segs caught table member up) = refl
@@ -117,7 +132,7 @@ none_fetched (Handles.claims seat segs) = refl
 none_fetched (Handles.settles seat segs since now late) = refl
 none_fetched (Handles.cuts seat segs heap addr run) = refl
 none_fetched (Handles.attaches seat segs caught after does) = refl
-none_fetched (Handles.detaches seat segs told other heard) = refl
+none_fetched (Handles.detaches seat segs told other none heard) = refl
 
 pub told_step : (count : ℕ) (at new : GlobalState) (step : Steps count at new) → IsByMail step → AreTraced at → AreTold at → AreTold new
 told_step count at new (Steps.quietly before who old now there does) by was told = told_quietly at who old now told there does

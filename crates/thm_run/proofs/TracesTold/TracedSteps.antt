@@ -51,7 +51,7 @@ traced_quietly at who old new was there (Quietly.counts seat sent) =
 traced_quietly at who old new was there (Quietly.calls seat heap call answer none) =
     traced_on at was who old new there (Done.Called heap call answer ∷ []) refl at.segs at.boxes refl
     (record { me = refl; core = refl; asked = refl; asking = refl }) refl refl
-traced_quietly at who old new was there (Quietly.notes seat standing) =
+traced_quietly at who old new was there (Quietly.notes seat elements chunks) =
     traced_on at was who old new there [] (still old) at.segs at.boxes refl (record { me = refl; core = refl; asked = refl; asking = refl })
     refl refl
 traced_quietly at who old new was there (Quietly.reads_names seat names) =
@@ -60,6 +60,21 @@ traced_quietly at who old new was there (Quietly.reads_names seat names) =
 traced_quietly at who old new was there (Quietly.reads_stats seat heap counted) =
     traced_on at was who old new there (Done.StatsRead heap counted ∷ []) refl at.segs at.boxes refl
     (record { me = refl; core = refl; asked = refl; asking = refl }) refl refl
+traced_quietly at who old new was there (Quietly.changes_names seat change) =
+    traced_on at was who old new there (Done.NamesChanged change ∷ []) refl at.segs at.boxes refl
+    (record { me = refl; core = refl; asked = refl; asking = refl }) refl refl
+traced_quietly at who old new was there (Quietly.sees_heap seat heap history) =
+    traced_on at was who old new there (Done.HeapSeen heap history ∷ []) refl at.segs at.boxes refl
+    (record { me = refl; core = refl; asked = refl; asking = refl }) refl refl
+traced_quietly at who old new was there (Quietly.plans_range seat addr len page plan) =
+    traced_on at was who old new there (Done.RangePlanned addr len page plan ∷ []) refl at.segs at.boxes refl
+    (record { me = refl; core = refl; asked = refl; asking = refl }) refl refl
+traced_quietly at who old new was there (Quietly.maps_chunk seat chunk maps ended is) =
+    traced_on at was who old new there (Done.ChunkMapped chunk ended ∷ []) refl at.segs at.boxes refl
+    (record { me = refl; core = refl; asked = refl; asking = refl }) refl refl
+traced_quietly at who old new was there (Quietly.leaves_chunk seat chunk maps is) =
+    traced_on at was who old new there [] (still old) at.segs at.boxes refl (record { me = refl; core = refl; asked = refl; asking = refl })
+    refl refl
 traced_quietly at who old new was there (Quietly.ends_line seat deed given) =
     traced_on at was who old new there [] (still old) at.segs at.boxes refl (record { me = refl; core = refl; asked = refl; asking = refl })
     refl refl
@@ -131,6 +146,8 @@ pub traced_handles : (count : ℕ) (at : GlobalState) (who : ℕ) (old new : Sea
     → AreTraced (with_segs given (with_seat who new at))
 traced_handles count at who old new given was there fetched (Handles.looks seat segs) growth sound =
     traced_on at was who old new there [] (still old) given at.boxes refl (same old) refl refl
+traced_handles count at who old new given was there fetched (Handles.moves_ranges seat segs ranges moves) growth sound =
+    traced_on at was who old new there [] (still old) given at.boxes refl (same old) refl refl
 traced_handles count at who old new given was there fetched (Handles.steps seat segs event core zero its knows denied may) growth sound =
     traced_event at was who old there denied event core its
     (known_brings (numbers_of at.seats) count old event fetched knows) growth old.party refl refl
@@ -156,7 +173,7 @@ traced_handles count at who old new given was there fetched (Handles.attaches se
     let beside = attach_beside who ended at.segs in
     traced_on at was who old new there more refl given at.boxes refl (attached_same old after _ at.segs.log ended more does) beside.armed
     beside.asks
-traced_handles count at who old new given was there fetched (Handles.detaches seat segs told other heard) growth sound =
+traced_handles count at who old new given was there fetched (Handles.detaches seat segs told other none heard) growth sound =
     traced_on at was who old new there [] (still old) given at.boxes refl
     (record { me = refl; core = refl; asked = refl; asking = refl }) refl refl
 

@@ -82,6 +82,8 @@ handles_gone : (seats : List Seat) (count by : ℕ) (old new : Seat) (taken give
     → AreCutSince past (trace_in (slice_get seats who)) → HasArmedGrowth taken → AreGone who base past seats taken
     → AreGone who base past seats given
 handles_gone seats count by old new _ _ (Handles.looks seat segs) there traced fetched who base past cut armed was = was
+handles_gone seats count by old new _ _ (Handles.moves_ranges seat segs ranges moves) there traced fetched who base past cut armed was =
+    record { low = was.low; since = record { more = was.since.more; is = was.since.is; going = was.since.going }; freed = was.freed }
 handles_gone seats count by _ _ _ _ (Handles.steps seat segs event core is its knows denied may) there traced fetched who base past cut armed was =
     gone_event seats by seat there traced fetched who base past cut segs armed was denied event core its
     (brought seats by seat there traced fetched who base past cut count event knows)
@@ -101,7 +103,7 @@ handles_gone seats count by _ _ _ _ (Handles.cuts seat segs heap addr run) there
     gone_retired who base past seats heap run segs was
 handles_gone seats count by _ _ _ _ (Handles.attaches seat segs caught after tried) there traced fetched who base past cut armed was =
     gone_left who base past seats segs _ was (attaching_leaves by caught segs)
-handles_gone seats count by _ _ _ _ (Handles.detaches seat segs told secondary heard) there traced fetched who base past cut armed was =
+handles_gone seats count by _ _ _ _ (Handles.detaches seat segs told secondary none heard) there traced fetched who base past cut armed was =
     gone_left who base past seats segs (after_leave by segs) was (record { asks = refl; armed = refl; log = refl; retiring = refl })
 
 -- EACH STEP, AND A RUN

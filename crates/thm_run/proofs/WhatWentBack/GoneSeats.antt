@@ -16,7 +16,7 @@ use Rattle.hp_segs.specs.Steps.{after_retire}
 use Rattle.hp_serve.specs.Attaching.{after_attaching}
 use Rattle.hp_proc.specs.Courses.{numbered_in}
 use Rattle.hp_proc.specs.Doing.{Done}
-use Rattle.hp_proc.specs.Doing.Done.{Asked, Called, CaughtUp, GaveUp, Looked, NamesRead, StatsRead}
+use Rattle.hp_proc.specs.Doing.Done.{Asked, Called, CaughtUp, ChunkMapped, GaveUp, HeapSeen, Looked, NamesChanged, NamesRead, RangePlanned, StatsRead}
 use Rattle.hp_heap.specs.HistoryLaws.{run_cut}
 use Rattle.hp_serve.specs.Asking.{ask_of}
 use Rattle.hp_serve.specs.declared.pages_asked.PagesAsked.{PagesAsked}
@@ -140,7 +140,7 @@ quietly_going base segs (Quietly.calls seat heap made answer none) = record {
       absurd (no_run answer run none its))
       (none_going base segs);
 }
-quietly_going base segs (Quietly.notes seat standing) = rests base seat _ segs refl
+quietly_going base segs (Quietly.notes seat elements chunks) = rests base seat _ segs refl
 quietly_going base segs (Quietly.reads_names seat names) = record {
   more = NamesRead names ∷ [];
   trace = refl;
@@ -155,6 +155,35 @@ quietly_going base segs (Quietly.reads_stats seat heap counted) = record {
       (λ its_heap addr run same. cc)
       (none_going base segs);
 }
+quietly_going base segs (Quietly.changes_names seat change) = record {
+  more = NamesChanged change ∷ [];
+  trace = refl;
+  going = no_call base segs (NamesChanged change) []
+      (λ its_heap addr run same. cc)
+      (none_going base segs);
+}
+quietly_going base segs (Quietly.sees_heap seat heap history) = record {
+  more = HeapSeen heap history ∷ [];
+  trace = refl;
+  going = no_call base segs (HeapSeen heap history) []
+      (λ its_heap addr run same. cc)
+      (none_going base segs);
+}
+quietly_going base segs (Quietly.plans_range seat addr len page plan) = record {
+  more = RangePlanned addr len page plan ∷ [];
+  trace = refl;
+  going = no_call base segs (RangePlanned addr len page plan) []
+      (λ its_heap addr run same. cc)
+      (none_going base segs);
+}
+quietly_going base segs (Quietly.maps_chunk seat chunk maps ended is) = record {
+  more = ChunkMapped chunk ended ∷ [];
+  trace = refl;
+  going = no_call base segs (ChunkMapped chunk ended) []
+      (λ its_heap addr run same. cc)
+      (none_going base segs);
+}
+quietly_going base segs (Quietly.leaves_chunk seat chunk maps is) = rests base seat _ segs refl
 quietly_going base segs (Quietly.ends_line seat deed given) = rests base seat _ segs refl
 
 pub mails_going : {who : ℕ} {old new : Seat} {step : MailStep} (base : ℕ) (segs : SegsView) → Mails who old new step
@@ -171,6 +200,7 @@ mails_going base segs (Mails.speaks seat to frame body action posted nothing say
 pub handles_going : {count who : ℕ} {old new : Seat} {taken given : SegsView} (base : ℕ)
     → Handles count who old new taken given → DoesGoing base old new given
 handles_going base (Handles.looks seat segs) = rests base seat seat segs refl
+handles_going base (Handles.moves_ranges seat segs ranges moves) = rests base seat seat _ refl
 handles_going base (Handles.steps seat segs event core is its knows denied may) = rests base seat _ _ refl
 handles_going base (Handles.maps seat segs caught table now core is its caught_up) = rests base seat _ _ refl
 handles_going base (Handles.follows seat segs caught table member caught_up) = rests base seat _ _ refl
@@ -193,4 +223,4 @@ handles_going {who = who} base (Handles.attaches seat segs caught after tried) =
       trace = refl;
       going = attached_going base (after_attaching who caught segs) (length segs.log) caught;
     }
-handles_going base (Handles.detaches seat segs told secondary heard) = rests base seat _ _ refl
+handles_going base (Handles.detaches seat segs told secondary none heard) = rests base seat _ _ refl

@@ -16,12 +16,12 @@ use Rattle.hp_segs.specs.Sound.{IsSound}
 use Rattle.hp_segs.specs.Steps.{after_claim, after_retire, insert_by_address}
 use Rattle.hp_serve.specs.Coordinating.{stepping, with_room}
 use Rattle.hp_proc.specs.Doing.{Done}
-use Rattle.hp_proc.specs.Doing.Done.{NamesRead, StatsRead}
+use Rattle.hp_proc.specs.Doing.Done.{ChunkMapped, HeapSeen, NamesChanged, NamesRead, RangePlanned, StatsRead}
 use Rattle.hp_proc.specs.Ends.{HaveGoneBack, KeepsCalls}
 use Rattle.hp_segs.specs.Returned.{gone_in, returned_runs}
 use Rattle.hp_segs.proofs.RetiredRuns.ReturnedBySteps.{IsGoneAlike}
 use Rattle.hp_heap.specs.HistoryLaws.{runs_cut}
-use Rattle.thm_run.specs.Seats.{Handles, Mails, Quietly, Seat}
+use Rattle.thm_run.specs.Seats.{Handles, Mails, Quietly, Seat, with_ranges}
 use Rattle.thm_run.specs.Together.{IsFirst, GlobalState, Runs, Steps}
 use Rattle.thm_run.proofs.WhatWentBack.CutRuns.{cuts_append, cuts_in, flat_map_indexed}
 use Rattle.thm_run.proofs.WhatWentBack.CutShares.{AreTheirs, cuts_of_all}
@@ -81,9 +81,14 @@ quietly_more (Quietly.hears seat answered) = rests seat _ refl
 quietly_more (Quietly.counts seat sent) = rests seat _ refl
 quietly_more (Quietly.calls seat heap call answer none) =
     record { more = _; trace = refl; cuts = append-nil _ ∙ none }
-quietly_more (Quietly.notes seat standing) = rests seat _ refl
+quietly_more (Quietly.notes seat elements chunks) = rests seat _ refl
 quietly_more (Quietly.reads_names seat names) = record { more = NamesRead names ∷ []; trace = refl; cuts = refl }
 quietly_more (Quietly.reads_stats seat heap counted) = record { more = StatsRead heap counted ∷ []; trace = refl; cuts = refl }
+quietly_more (Quietly.changes_names seat change) = record { more = NamesChanged change ∷ []; trace = refl; cuts = refl }
+quietly_more (Quietly.sees_heap seat heap history) = record { more = HeapSeen heap history ∷ []; trace = refl; cuts = refl }
+quietly_more (Quietly.plans_range seat addr len page plan) = record { more = RangePlanned addr len page plan ∷ []; trace = refl; cuts = refl }
+quietly_more (Quietly.maps_chunk seat chunk maps ended is) = record { more = ChunkMapped chunk ended ∷ []; trace = refl; cuts = refl }
+quietly_more (Quietly.leaves_chunk seat chunk maps is) = rests seat _ refl
 quietly_more (Quietly.ends_line seat deed given) = rests seat _ refl
 
 -- what all participants cut
@@ -143,6 +148,8 @@ nothing_cut old new taken given more alike = record { cut = []; more = more; gon
 handles_return : {count who : ℕ} {old new : Seat} {taken given : SegsView} → Handles count who old new taken given → IsSound taken
     → Returns old new taken given
 handles_return (Handles.looks seat segs) sound = nothing_cut seat seat segs segs (rests seat seat refl) refl
+handles_return (Handles.moves_ranges seat segs ranges moves) sound =
+    nothing_cut seat seat segs (with_ranges ranges segs) (rests seat seat refl) refl
 handles_return (Handles.steps seat segs event core is its knows denied may) sound =
     nothing_cut seat _ segs _ (rests seat _ refl) (event_gone denied event core segs sound)
 handles_return (Handles.maps seat segs caught table now core is its caught_up) sound =
@@ -161,7 +168,7 @@ handles_return (Handles.cuts seat segs heap addr run) sound =
     record { cut = run ∷ []; more = record { more = _; trace = refl; cuts = refl }; gone = retire_gone heap run segs }
 handles_return {who = who} (Handles.attaches seat segs caught after tried) sound =
     nothing_cut seat _ segs _ (record { more = _; trace = refl; cuts = refl }) (left_gone segs _ (attaching_leaves who caught segs))
-handles_return (Handles.detaches seat segs told secondary heard) sound = nothing_cut seat _ segs _ (rests seat _ refl) refl
+handles_return (Handles.detaches seat segs told secondary none heard) sound = nothing_cut seat _ segs _ (rests seat _ refl) refl
 
 mails_more : {who : ℕ} {old new : Seat} {step : MailStep} → Mails who old new step → DoesMore old new []
 mails_more (Mails.notes seat note) = rests seat seat refl

@@ -281,7 +281,7 @@ module _ (maps : MapsView) (rows : maps.rows ≡ []) (number : maps.number ≡ 0
   }
 
   detaches_once : Handles 2 1 (seat 1) detached first.segs (after_leave 1 first.segs)
-  detaches_once = Handles.detaches (seat 1) first.segs [] (λ same. cc) (none_told maps.rows rows)
+  detaches_once = Handles.detaches (seat 1) first.segs [] (λ same. cc) (ap chunk_rows rows) (none_told maps.rows rows)
 
   leaves_roster : is_member (after_leave 1 first.segs).roster 1 ≡ false
   leaves_roster = refl

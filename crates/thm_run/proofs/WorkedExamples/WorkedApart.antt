@@ -55,7 +55,7 @@ module _ (segs : SegsView) (stays goes : Seat) (member : is_member segs.roster 1
       (SeatTrace.handles stays stays stays left left [] [] (Handles.looks stays left) (SeatTrace.ends stays))
 
   way_of_1 : SeatTrace 2 1 goes out (steps 1)
-  way_of_1 = SeatTrace.handles goes out out segs left (Emptied ∷ []) [] (Handles.detaches goes segs [] (λ same. cc) unheard) (SeatTrace.ends out)
+  way_of_1 = SeatTrace.handles goes out out segs left (Emptied ∷ []) [] (Handles.detaches goes segs [] (λ same. cc) refl unheard) (SeatTrace.ends out)
 
   -- a heap that is taken is no hold of the segment value
   no_hold : (heap : HeapView) (pen : PenView) → holds_from 1 None (Takes 0 (Heap heap pen) ∷ Gives 0 (Heap heap pen) ∷ steps 1) ≡ hold 1 segs left ∷ []
