@@ -1,6 +1,7 @@
 pub mod BesideNames
 pub mod Boxed
 pub mod Forgotten
+pub mod HandAgain
 pub mod HandAllocates
 pub mod HandAsked
 pub mod HandAttaches
@@ -8,6 +9,7 @@ pub mod HandCalls
 pub mod HandCut
 pub mod HandDone
 pub mod HandExternal
+pub mod HandFreed
 pub mod HandGiven
 pub mod HandGrown
 pub mod HandLeaves
@@ -23,5 +25,6 @@ pub mod HeldBack
 pub mod HeldOn
 pub mod LeftBack
 pub mod Holds
+pub mod NamedBetween
 pub mod OnceHeld
 pub mod SeenHeap

@@ -18,6 +18,7 @@ mod DumpLines
 pub mod FoundZones
 pub mod HallMoments
 pub mod Halted
+pub mod InHandUntold
 pub mod InTurn
 pub mod Joining
 pub mod LawLemmas
@@ -78,3 +79,4 @@ pub mod WorkedLines
 pub mod ZoneAgrees
 pub mod ZoneElements
 pub mod ZoneNames
+mod ZonesWithout
