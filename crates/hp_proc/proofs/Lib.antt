@@ -74,3 +74,8 @@ pub mod WorkedLines
 pub mod ZoneAgrees
 pub mod ZoneElements
 pub mod ZoneNames
+mod ZoneServed
+mod ZoneHeld
+mod ZoneTrees
+mod LinesNamed
+mod ZoneLooked
