@@ -80,3 +80,8 @@ pub mod ZoneAgrees
 pub mod ZoneElements
 pub mod ZoneNames
 mod ZonesWithout
+mod ZoneServed
+mod ZoneHeld
+mod ZoneTrees
+mod LinesNamed
+mod ZoneLooked
