@@ -41,7 +41,7 @@ none_left doer heap state holds = record {
 }
 
 -- what lines left beside chunks, one after another
-standing_then : (first mid last : Standing) → mid ≡ record first { chunks = mid.chunks } → last ≡ record mid { chunks = last.chunks }
+pub standing_then : (first mid last : Standing) → mid ≡ record first { chunks = mid.chunks } → last ≡ record mid { chunks = last.chunks }
     → last ≡ record first { chunks = last.chunks }
 standing_then first mid last here there = there ∙ ap (λ (standing : Standing). record standing { chunks = last.chunks }) here
 

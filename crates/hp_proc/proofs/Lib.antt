@@ -14,6 +14,7 @@ mod ChunksLeft
 pub mod Continued
 mod ExternalMeant
 pub mod DetachedLines
+mod DetachesHere
 mod DumpLines
 pub mod FoundZones
 pub mod HallMoments
@@ -34,6 +35,7 @@ pub mod MadeHeaps
 pub mod Makers
 pub mod Mapped
 mod HeldArms
+mod LeavingAll
 mod LeavingOn
 mod LeftHeld
 mod LeftHere

@@ -108,18 +108,22 @@ module _ {first mid last : ParticipantView} {one two : HeapView} {pen : PenView}
             });
       }
 
+-- with the heap in its hand it notes what it noted before
+pub stood : {first mid : ParticipantView} {one : HeapView} {slot : ℕ} → mid.context ≡ first.context → one.plain.index ≡ slot
+    → AreFirstOf slot first.context.standing.chunks → AreFirstOf one.plain.index mid.context.standing.chunks
+stood {first} {mid} {one} {slot} knew index stand =
+    subst (λ (at : ℕ). AreFirstOf at mid.context.standing.chunks) (sym index)
+    (subst (AreFirstOf slot) (sym (ap (λ (context : Context). context.standing.chunks) knew)) stand)
+
 -- what was left, by what was noted before it took the heap
 module _ {first mid last : ParticipantView} {one two : HeapView} {slot : ℕ} {a : HallState} (knew : mid.context ≡ first.context)
     (index : one.plain.index ≡ slot) (stand : AreFirstOf slot first.context.standing.chunks)
     (left : HasLeft (chunks_of one.plain.index mid.context.standing.chunks) mid last one two a)
     (others : last.context.standing.chunks ≡ chunks_beside one.plain.index mid.context.standing.chunks) where
-  noted_are : mid.context.standing.chunks ≡ first.context.standing.chunks
-  noted_are = ap (λ (context : Context). context.standing.chunks) knew
-
   others_are : last.context.standing.chunks ≡ chunks_beside slot first.context.standing.chunks
   others_are =
       others
-      ∙ (ap (λ (at : ℕ). chunks_beside at mid.context.standing.chunks) index ∙ ap (chunks_beside slot) noted_are)
+      ∙ (ap (λ (at : ℕ). chunks_beside at mid.context.standing.chunks) index ∙ ap (chunks_beside slot) (ap (λ (context : Context). context.standing.chunks) knew))
 
   pub standing_left : last.context.standing ≡ record first.context.standing { chunks = chunks_beside slot first.context.standing.chunks }
   standing_left =
@@ -128,17 +132,13 @@ module _ {first mid last : ParticipantView} {one two : HeapView} {slot : ℕ} {a
       ∙ ap (λ (standing : Standing). record standing { chunks = chunks_beside slot first.context.standing.chunks })
       (ap (λ (context : Context). context.standing) knew))
 
-  stood : AreFirstOf one.plain.index mid.context.standing.chunks
-  stood =
-      subst (λ (at : ℕ). AreFirstOf at mid.context.standing.chunks) (sym index) (subst (AreFirstOf slot) (sym noted_are) stand)
-
   -- the line goes on with the chunks of other heaps
   pub does_left : DoesHeld mid.party.me mid last one two a a (leaving_all first.context.standing.chunks) (leaving_all last.context.standing.chunks)
   does_left =
       subst (λ (chunks : List OwnChunk). DoesHeld mid.party.me mid last one two a a (leaving_all chunks) (leaving_all last.context.standing.chunks))
-      noted_are
+      (ap (λ (context : Context). context.standing.chunks) knew)
       (subst (λ (chunks : List OwnChunk). DoesHeld mid.party.me mid last one two a a (leaving_all chunks)
-      (leaving_all last.context.standing.chunks)) (sym stood)
+      (leaving_all last.context.standing.chunks)) (sym (stood knew index stand))
       (subst (λ (rest : List OwnChunk). DoesHeld mid.party.me mid last one two a a
       (leaving_all (chunks_of one.plain.index mid.context.standing.chunks ++ chunks_beside one.plain.index mid.context.standing.chunks))
       (leaving_all rest)) (sym others) (left.does (chunks_beside one.plain.index mid.context.standing.chunks))))
