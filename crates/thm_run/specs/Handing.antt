@@ -16,6 +16,7 @@ use Rattle.hp_serve.specs.Party.{Party}
 use Rattle.hp_proc.specs.Doing.{Done}
 use Rattle.hp_proc.specs.Handed.{AreStatsHanded}
 use Rattle.hp_proc.specs.LinesDone.{Course, courses_of, opening_standing, trace_of}
+use Rattle.hp_proc.specs.NamesAtEnd.{AreHandedTogether}
 use Rattle.hp_proc.specs.OneThread.{IsLeftBy, IsMoment, WasAllowed, WasDenied}
 use Rattle.hp_proc.specs.WatchedBytes.{AreWatchersOf, IsRegisteredWithGrants}
 use Rattle.thm_run.specs.EndLaws.{GoesBy, IsAtEnd, IsGiven}
@@ -54,10 +55,11 @@ pub record AreJudged (workload : Workload) (courses : List Course) (segs : SegsV
   pub denied : (so_far : List Course) (who : ℕ) (done : Done) → IsMoment courses so_far who done
       → WasDenied workload segs so_far who done
 
--- and what a line was handed of names, of an external heap and of statistics is what the lines before it leave
-abbrev pub AreOfLinesBefore : Workload → List Course → Type 0
-AreOfLinesBefore workload courses = (so_far : List Course) (who : ℕ) (done : Done) → IsMoment courses so_far who done
-    → IsLeftBy workload so_far done
+-- and what a line was handed of names, of an external heap and of statistics is what the lines before it leave; names and a heap's state that
+-- a line is handed together agree
+pub record AreOfLinesBefore (workload : Workload) (courses : List Course) : Type 0 where
+  pub handed : (so_far : List Course) (who : ℕ) (done : Done) → IsMoment courses so_far who done → IsLeftBy workload so_far done
+  pub together : All (AreHandedTogether workload.pools.items) courses
 
 -- before the first line it is so
 abbrev pub JudgedOpen : Type 0
