@@ -6,6 +6,7 @@ pub mod ChosenHeaps
 pub mod ChunkLies
 mod ChunksLeft
 pub mod Continued
+mod DumpLines
 pub mod FoundZones
 pub mod HallMoments
 pub mod Halted
@@ -18,7 +19,7 @@ pub mod LineFacts
 pub mod LinesApart
 pub mod LinesInHall
 pub mod LinesOrdered
-pub mod Lookups
+mod LookedUp
 pub mod MadeHeaps
 pub mod Makers
 pub mod Mapped
@@ -36,7 +37,6 @@ pub mod NotedLeft
 pub mod Noted
 pub mod OrdinaryElements
 pub mod PagesStay
-pub mod PlacesRead
 pub mod Plans
 mod PoolsFrom
 mod Registered
