@@ -29,7 +29,6 @@ pub mod MeantHeaps
 pub mod NamedPlaces
 pub mod NamesFollow
 pub mod NamesAround
-pub mod WhosePages
 mod NamesHeld
 mod NamesRead
 pub mod NotedCame
@@ -55,3 +54,6 @@ pub mod StepsOrdered
 pub mod TreeDeeds
 pub mod Unarmed
 pub mod WorkedLines
+pub mod ZoneAgrees
+pub mod ZoneElements
+pub mod ZoneNames
