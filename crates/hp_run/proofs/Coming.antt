@@ -43,6 +43,7 @@ given_by workload runnable = record {
   present = bit_at_lowest workload.absent ∙ runnable.absent.primary;
   pools = runnable.pools;
   deadline = runnable.limits.short;
+  awaits = runnable.awaits;
 }
 
 -- lists of which each place has the same are the same

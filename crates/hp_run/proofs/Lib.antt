@@ -24,7 +24,6 @@ mod ProgramLemmas
 mod MadeLemmas
 mod SummaryLemmas
 mod WorkedFailures
-mod NamesInOrder
 mod Newcomers
 mod KitLemmas
 pub mod Crossing

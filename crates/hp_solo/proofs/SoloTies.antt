@@ -20,12 +20,11 @@ use Rattle.hp_solo.specs.Solo.{AreLater, AreTied, IsLaterAt, IsLaterParty, IsPar
 use Rattle.hp_solo.specs.SoloCourse.{same_then, server_stays}
 
 -- who is tied stays so along the course of the hall where its own part stays, its marks, and whether it is in the roster
-pub tied_on : (old new : HallView) (who : ℕ) (party : Party) → IsCourse old new → own_at new who ≡ own_at old who
-    → joined_in new who ≡ joined_in old who → ((heap : ℕ) → part_in new who heap ≡ part_in old who heap) → IsTiedAt old who party
+pub tied_marked : (old new : HallView) (who : ℕ) (party : Party) → IsCourse old new → own_at new who ≡ own_at old who
+    → joined_in new who ≡ joined_in old who → ((heap : ℕ) → marked_at new who heap ≡ marked_at old who heap) → IsTiedAt old who party
     → IsTiedAt new who party
-tied_on old new who party course own joined part at =
+tied_marked old new who party course own joined marks at =
     let seen = course_seen old new course in
-    let marks : (heap : ℕ) → marked_at new who heap ≡ marked_at old who heap = λ heap. ap (λ (p : HeapPart). p.marked) (part heap) in
     record {
       number = at.number;
       tied = record {
@@ -35,6 +34,13 @@ tied_on old new who party course own joined part at =
         left = λ out heap. marks heap ∙ at.tied.left out heap;
       };
     }
+
+-- as it does where its parts in heaps stay
+pub tied_on : (old new : HallView) (who : ℕ) (party : Party) → IsCourse old new → own_at new who ≡ own_at old who
+    → joined_in new who ≡ joined_in old who → ((heap : ℕ) → part_in new who heap ≡ part_in old who heap) → IsTiedAt old who party
+    → IsTiedAt new who party
+tied_on old new who party course own joined part at =
+    tied_marked old new who party course own joined (λ heap. ap (λ (p : HeapPart). p.marked) (part heap)) at
 
 -- what is there was not taken
 pub free_home : (slot : Option SlotView) → IsHome slot → taken_from slot ≡ None

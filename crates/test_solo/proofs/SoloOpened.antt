@@ -31,6 +31,7 @@ use Rattle.hp_hall.specs.HallState.{HallState}
 use Rattle.hp_hall.specs.Holding.{HasPages, HeapPart, IsAsPart, IsHeldWith, IsPartTaken, IsTakenAs, StandsFor}
 use Rattle.hp_segs.specs.Standing.{Holding}
 use Rattle.hp_plain.specs.Opening.{AreHome, OpensWith, heaps_in}
+use Rattle.hp_hall.specs.Naming.{marked_by}
 use Rattle.hp_hall.specs.Own.{after_ack}
 use Rattle.hp_hall.specs.Values.{Fits, IsHeap, IsSoundKept}
 use Rattle.hp_hall.specs.Views.{HeldHeap}
@@ -44,6 +45,8 @@ use Rattle.hp_serve.specs.Party.{Party}
 use Rattle.hp_serve.specs.Tied.{nothing_yet}
 use Rattle.hp_proc.proofs.Unarmed.{all_alike, unarmed_new}
 use Rattle.hp_serve.specs.InHall.{CanServe}
+use Rattle.hp_solo.proofs.SoloUnmarked.{opened_unmarked}
+use Rattle.hp_solo.specs.Solo.{marked_at}
 use Rattle.hp_solo.specs.SoloAsks.{IsInHand, IsOpening, MayBeginToAsk, MayGiveUp}
 use Rattle.test_solo.specs.Asking.{MayAsk}
 
@@ -57,6 +60,12 @@ first_serves (one ∷ held) segs names some serves = serves one.heap refl
 pub serves_first : (heap : HeapView) → heap.plain ≡ opening_heap 0 (Some 0) → IsSome heap.plain.serves
 serves_first heap is = subst (λ (plain : PlainHeap). IsSome plain.serves) (sym is) refl
 
+-- a heap that opens has no chunk
+opening_unmarked : (who : ℕ) (heap : HeapView) (index : ℕ) (serves : Option ℕ) → heap.plain ≡ opening_heap index serves
+    → marked_by who heap.plain ≡ []
+unfolding marked_by
+opening_unmarked who heap index serves is = ap (marked_by who) is
+
 -- of two of whom nobody is absent both are in the roster at first
 present_two : (who : ℕ) → who < 2 → is_member (opening_roster 2 0) who ≡ true
 present_two who below =
@@ -66,8 +75,10 @@ present_two who below =
 -- a hall opens over a segment value of which nobody is armed and both are in the roster, and heaps, the first of which is a socket's
 pub opens : (heaps : List HeapView) (segs : SegsView) (names : NamesView) (hall : HallView) → OpensWith 2 heaps segs names hall
     → length heaps ≡ MAX_HEAPS → segs.armed ≡ replicate 16 None → segs.roster ≡ opening_roster 2 0
-    → ((heap : HeapView) → slice_get heaps 0 ≡ Some heap → IsSome heap.plain.serves) → IsOpening hall
-opens heaps segs names hall opened count armed roster serves =
+    → ((heap : HeapView) → slice_get heaps 0 ≡ Some heap → IsSome heap.plain.serves)
+    → ((place : ℕ) (heap : HeapView) → slice_get heaps place ≡ Some heap → (serves : Option ℕ) × (heap.plain ≡ opening_heap place serves))
+    → IsOpening hall
+opens heaps segs names hall opened count armed roster serves plain =
     let many : length opened.held ≡ MAX_HEAPS =
     sym (length-map opened.held (λ (one : HeldHeap). one.heap)) ∙ (ap length opened.heaps_are ∙ count) in
     record {
@@ -82,6 +93,11 @@ opens heaps segs names hall opened count armed roster serves =
           ap (λ (h : HallView). (part_in h who heap).armed) opened.hall_is
           ∙ ap (option_and_then (λ (s : SegsView). armed_ask s who)) (opened_segs segs names opened.held MAX_HEAPS many)
           ∙ unarmed_new segs who armed;
+      unmarked = λ who heap.
+          ap (λ (h : HallView). marked_at h who heap) opened.hall_is
+          ∙ opened_unmarked segs names who opened.held heap (λ place one there.
+          let is = plain place one (ap (λ (l : List HeapView). slice_get l place) (sym opened.heaps_are) ∙ there) in
+          opening_unmarked who one place is.0 is.1);
       serves = λ who.
           subst (λ (h : HallView). IsSome (part_in h who 0).serves) (sym opened.hall_is)
           (first_serves opened.held segs names (omega (arith, many)) (λ heap there.

@@ -2,7 +2,7 @@
 ghost use Rattle.thm_run.specs.Apart.{ComeTogether};
 ghost use Rattle.thm_run.specs.ByRuns.{EndByRun, RunTogether};
 ghost use Rattle.thm_run.specs.Drops.{DropsGoOnByLine, DropsOpen, DropsRest};
-ghost use Rattle.thm_run.specs.EndLaws.{EndsSo, FailsByReason, FailsOnce, GoesOnByLine, OpensSoFar, RefusesByReason, RefusesOnce, RestsSoFar};
+ghost use Rattle.thm_run.specs.EndLaws.{EndsSo, FailsByReason, FailsOnce, GoesOnByLine, NamesEndSo, OpensSoFar, RefusesByReason, RefusesOnce, RestsSoFar};
 ghost use Rattle.thm_run.specs.Freed.{ShownGoOnByLine, ShownOpen, ShownRest};
 ghost use Rattle.thm_run.specs.Told.{CountedAtLast, NumbersByTold, ToldByPosts};
 ghost use Rattle.thm_run.specs.OwnHolds.{AnswersByHolds, HoldsGoOn, NoneByHolds, NoneGrowsForHeld, OutcomesByHolds, SeesByHolds, TurnsByHolds};
@@ -26,6 +26,12 @@ pub fn line_law()
 /// log; and each participant is in the roster, and has its table, as its lines leave it. Own.
 pub fn end_law()
     ensures { EndsSo }
+{}
+
+/// After the last line a run has come to names that have the changes of its lines and no others: directory, claimed memory, chunks, memzones
+/// and marks agree; and each line was handed what those before it leave. Own.
+pub fn names_end_law()
+    ensures { NamesEndSo }
 {}
 
 /// A growth that was refused as a mapping failed was so at a call at which that participant's mapper may fail, and at most one growth was

@@ -1,5 +1,5 @@
 -- One of the participants goes away for its line, and comes back.
-use Rattle.std.proofs.Common.{◌≡◌, ◌∙◌, ℕ, ◌+◌, ◌<◌, ◌==◌, List, [], ◌∷◌, ◌++◌, Bool, length, set, take, Option, Some, None, refl, ap, sym, subst, arith}
+use Rattle.std.proofs.Common.{◌≡◌, ◌∙◌, ℕ, ◌+◌, ◌<◌, ◌==◌, List, [], ◌∷◌, ◌++◌, Bool, false, length, set, take, Option, Some, None, refl, ap, sym, subst, arith}
 use Rattle.std.specs.List.{slice_get}
 use Rattle.std.specs.Option.{option_map}
 use Rattle.std.proofs.lemmas.List.{length-map, length-take-le, take_more}
@@ -305,6 +305,10 @@ returns g c =
           always.ready.ready.ready;
       tied = subst (λ (me : ℕ). IsTied (seen_in back.plain) (own_at back.plain me) (λ (heap : ℕ). (part_in back.plain me heap).marked)
           after.party.joined after.party.maps) number always.ready.ready.idle.tied.table;
+      left = subst (λ (me : ℕ). after.party.joined ≡ false → (heap : ℕ) → (part_in back.plain me heap).marked ≡ []) number
+          always.ready.ready.idle.tied.left;
+      chunks = subst (λ (me : ℕ). (heap : ℕ) → AreMarkedAs heap (part_in back.plain me heap).marked after.context.standing.chunks) number
+          always.ready.ready.chunks;
       told = subst (λ (me : ℕ). lines_at back.plain me ≡ lines_at away.plain me + 1) number did.lines;
       same = always.ready.same;
       free = always.ready.ready.idle.free;
