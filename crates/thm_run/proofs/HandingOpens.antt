@@ -1,5 +1,5 @@
--- Before the first line nothing was judged, and nothing was read.
-use Rattle.std.proofs.Common.{◌≡◌, List, [], ◌∷◌, ◌++◌, refl}
+-- Before the first line nothing was judged, and nothing was handed.
+use Rattle.std.proofs.Common.{◌≡◌, List, [], ◌∷◌, ◌++◌}
 use Rattle.hp_proc.specs.LinesDone.{Course}
 use Rattle.thm_run.specs.Handing.{CountedOpen, JudgedOpen}
 
@@ -14,7 +14,4 @@ judged_open workload segs = record {
 }
 
 pub counted_open : CountedOpen
-counted_open workload = record {
-  handed = λ so_far who done moment. absurd (no_moment moment.earlier moment.course moment.later moment.lines);
-  unchanged = refl;
-}
+counted_open workload so_far who done moment = absurd (no_moment moment.earlier moment.course moment.later moment.lines)

@@ -1,6 +1,6 @@
 -- What a slot keeps along steps of which those on it are one participant's: what is taken from it is what it keeps then, and what is given back
 -- it keeps afterwards.
-use Rattle.std.proofs.Common.{◌≡◌, ◌≢◌, ◌∙◌, ◌==◌, ℕ, zero, suc, ◌<◌, Bool, true, false, cond, List, [], ◌∷◌, ◌++◌, length, map, Some, refl, sym, ap, subst, arith, ⊎_elim, eq-eqb}
+use Rattle.std.proofs.Common.{◌≡◌, ◌≢◌, ◌∙◌, ◌==◌, ℕ, zero, suc, ◌<◌, Bool, true, false, cond, List, [], ◌∷◌, ◌++◌, length, map, Some, refl, sym, ap, subst, arith, ⊎_elim, eq-eqb, inl, inr}
 use Rattle.std.specs.List.{AllByRecursion}
 use Rattle.std.specs.Prelude.{⊤, slice_get, slice_set}
 use Rattle.std.proofs.lemmas.Bool.{cases_Bool, cases_eq, eqb-true}
@@ -26,7 +26,7 @@ IsNoSegs (Segments segs) = ⊥
 IsNoSegs _ = ⊤
 
 -- what is given in place of a heap or of names is a heap or names
-no_segs_given : (who : ℕ) (before given : Kept) → IsGivenBy who before given → IsNoSegs before → IsNoSegs given
+pub no_segs_given : (who : ℕ) (before given : Kept) → IsGivenBy who before given → IsNoSegs before → IsNoSegs given
 no_segs_given who before given by =
     by_kind (λ (taken given : HeldHeap). IsHeapGivenBy who taken.heap given.heap) (AreSegsGivenBy who) AreLaterNames
     (λ before given. IsNoSegs before → IsNoSegs given) (λ before given by none. none) (λ before given by none. none)

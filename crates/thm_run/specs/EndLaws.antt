@@ -85,8 +85,8 @@ OpensSoFar = (workload : Workload) (held : List HeldHeap) (parties : List Party)
     → SoFar workload [] parties (first_hall workload held)
 
 -- a participant served while another one did its line, or after the last line, by a judge that denies by what its lines left
-pub record ServesBeside (count who : ℕ) (left : Standing) (old new : HallView) (party after : Party) : Type 0 where
-  pub served : HasServed (denials_of left) count who old new party after
+pub record ServesBeside (count who : ℕ) (standing : Standing) (old new : HallView) (party after : Party) : Type 0 where
+  pub served : HasServed (denials_of standing) count who old new party after
   pub same : IsSameParty party after
   pub tied : IsTied (seen_in new) (own_at new who) (λ heap. (part_in new who heap).marked) after.joined after.maps
   pub left : after.joined ≡ false → (heap : ℕ) → (part_in new who heap).marked ≡ []

@@ -1,21 +1,21 @@
--- After a line more what lines read of statistics is what the lines before them leave.
-use Rattle.std.proofs.Common.{◌≡◌, ◌⊎◌, ◌∙◌, ℕ, ◌+◌, ◌<◌, List, [], ◌∷◌, ◌++◌, append-nil, filter_map, fold, length, Option, Some, None, refl, ap, sym, subst, inl, inr, ⊎_elim}
+-- After a line more what lines are handed of names, of heaps and of statistics is what the lines before them leave.
+use Rattle.std.proofs.Common.{◌≡◌, ◌⊎◌, ◌∙◌, ℕ, ◌+◌, ◌<◌, List, [], ◌∷◌, ◌++◌, append-nil, arith, length, Option, Some, None, refl, ap, sym, subst, inl, inr, ⊎_elim}
 use Rattle.std.specs.List.{AllByRecursion}
 use Rattle.std.specs.Option.{option_map}
-use Rattle.std.specs.Prelude.{slice_get}
-use Rattle.std.proofs.lemmas.List.Elements.{filter_map-append}
+use Rattle.std.specs.Prelude.{Contains, slice_get}
+use Rattle.hp_base.specs.declared.limits.TheConstants.{MAX_HEAPS}
 use Rattle.std.proofs.lemmas.Option.{same_Some, slice_get-map}
 use Rattle.hp_hall.specs.Mail.{steps_of}
-use Rattle.hp_hall.specs.Values.{history_of}
+use Rattle.hp_hall.specs.Values.{Fits, history_of}
 use Rattle.hp_hall.specs.declared.kept.Kept.{Kept}
 use Rattle.hp_hall.specs.declared.kept.Kept.TheVariants.{Heap, Names, Segments}
-use Rattle.hp_hall.specs.declared.slot.TheConstants.{NAMES_SLOT}
 use Rattle.hp_heap.specs.History.{HeapView, replay}
 use Rattle.hp_heap.specs.PlainHeap.{PlainHeap, opening_heap}
 use Rattle.hp_heap.specs.Statistics.{statistics_of}
 use Rattle.hp_heap.specs.declared.entry.Entry.{Entry}
 use Rattle.hp_base.specs.declared.stats.Stats.{Stats}
-use Rattle.hp_plain.specs.HallView.{HallView, IsHall, IsHome, SlotView, history_in, newest_by, newest_of, slot_at}
+use Rattle.hp_plain.proofs.Slotted.{value_at}
+use Rattle.hp_plain.specs.HallView.{HallView, IsHall, IsHome, SlotView, history_in, lines_at, newest_by, newest_of, slot_at}
 use Rattle.hp_plain.specs.Keeping.{values_in}
 use Rattle.hp_plain.specs.Told.{told_of}
 use Rattle.hp_proc.proofs.Joining.{calls_on}
@@ -26,11 +26,10 @@ use Rattle.hp_proc.specs.Ends.{history_by, none_made}
 use Rattle.hp_proc.specs.Handing.{counted_in}
 use Rattle.hp_proc.specs.Heaps.{sockets_of}
 use Rattle.hp_proc.specs.Histories.{entries_for}
-use Rattle.hp_proc.specs.LinesDone.{Course, trace_of}
-use Rattle.hp_proc.specs.NamesLog.{change_made}
-use Rattle.hp_proc.specs.OneThread.{IsLeftBy, IsMoment, counted_by}
+use Rattle.hp_proc.specs.LinesDone.{Course}
+use Rattle.hp_proc.specs.OneThread.{IsLeftBy, IsMoment, counted_by, names_by}
 use Rattle.hp_proc.specs.Progress.{HoldsNone}
-use Rattle.hp_proc.specs.SharedNames.{NamesChange, names_with, no_changes}
+use Rattle.hp_proc.specs.SharedNames.{SharedNames}
 use Rattle.hp_script.specs.declared.answer.Answer.{Answer}
 use Rattle.hp_script.specs.declared.line.Act.{Act}
 use Rattle.hp_script.specs.declared.line.Act.TheVariants as act
@@ -38,23 +37,24 @@ use Rattle.hp_script.specs.declared.line.Line.{Line}
 use Rattle.hp_script.specs.declared.workload.Workload.{Workload}
 use Rattle.hp_serve.specs.Party.{Party}
 use Rattle.hp_stats.specs.declared.stat_pair.StatPair.{StatPair}
-use Rattle.hp_zone.specs.declared.names.Names.{Names as NamesView}
-use Rattle.thm_run.proofs.CountedReads.HandedNames.{IsHandedSo, acts_handed, none_changed}
+use Rattle.thm_run.proofs.CountedReads.HandedNames.{read_first}
+use Rattle.thm_run.proofs.CountedReads.HeapsSeen.{acts_seen, among_at, seen_held}
 use Rattle.thm_run.proofs.CountedReads.HomeHeaps.{home_replay}
-use Rattle.thm_run.proofs.CountedReads.NewestRead.{IsBare, IsReadOf, IsReadSo, PublishNothing, acts_bare, acts_read, all_at, all_read, all_split, first_nil, gives_publish}
+use Rattle.thm_run.proofs.CountedReads.NewestRead.{IsBare, IsReadOf, IsReadSo, PublishNothing, acts_bare, acts_read, all_at, all_read, first_nil, gives_publish}
 use Rattle.thm_run.proofs.CountedReads.ReadlessLines.{AsksNoStats, IsReadless, line_readless}
 use Rattle.thm_run.proofs.GrownHeaps.GrownLines.{calls_made, history_append}
 use Rattle.thm_run.proofs.HeapGivers.{GiveNoHeap}
 use Rattle.thm_run.proofs.JudgedGrowths.JudgedOn.{IsLastOrEarlier, last_or_earlier}
-use Rattle.thm_run.proofs.LineSteps.LineComes.{course_of, later, line_gives, line_names, trace}
-use Rattle.thm_run.proofs.LineSteps.LineMore.{trace_more}
-use Rattle.thm_run.proofs.NamesStay.{IsTakenSo, all_taken_so}
+use Rattle.thm_run.proofs.LineSteps.LineComes.{course_of, later, line_gives, names_left, slot_along, trace}
+use Rattle.thm_run.proofs.InTurnByHolds.HeldCalls.{none_for}
+use Rattle.thm_run.proofs.NamesAlong.{names_more}
 use Rattle.thm_run.proofs.PathSteps.WaysOn.{steps_done}
-use Rattle.thm_run.proofs.RunFacts.SoFarFacts.{slots_so_far}
+use Rattle.thm_run.proofs.RunFacts.SoFarFacts.{IsAt, at_place, slots_so_far}
+use Rattle.thm_run.proofs.SlotAlong.{IsNoSegs, along_front}
 use Rattle.thm_run.proofs.StatsFronts.{at}
-use Rattle.thm_run.specs.EndLaws.{GoesBy, IsGiven}
+use Rattle.thm_run.specs.EndLaws.{GoesBy, IsGiven, tells_one_more}
 use Rattle.thm_run.specs.Handing.{AreOfLinesBefore, CountedGoesOnByLine}
-use Rattle.thm_run.specs.SoFar.{SoFar, first_names}
+use Rattle.thm_run.specs.SoFar.{SoFar}
 
 -- nothing was allocated in a heap that opens
 opening_zeros : (index : ℕ) (serves : Option ℕ)
@@ -206,60 +206,94 @@ module _ (workload : Workload) (courses : List Course) (parties behind : List Pa
           ∙ ap (λ (earlier : List Course). earlier ++ at moment.course moment.first ∷ []) first_is
           ∙ ap (λ (course : Course). courses ++ at course moment.first ∷ []) course_is
 
+  module _ (so_far : List Course) (who : ℕ) (done : Done) (moment : IsMoment lines so_far who done) (first_is : moment.earlier ≡ courses)
+      (course_is : moment.course ≡ one) where
+    at_done : its_trace ≡ moment.first ++ done ∷ moment.rest
+    at_done = ap (λ (course : Course). course.trace) (sym course_is) ∙ moment.trace
+
+    until_then : so_far ≡ courses ++ at one moment.first ∷ []
+    until_then =
+        moment.until
+        ∙ ap (λ (earlier : List Course). earlier ++ at moment.course moment.first ∷ []) first_is
+        ∙ ap (λ (course : Course). courses ++ at course moment.first ∷ []) course_is
+
   -- the names of the line
-  abbrev names : NamesView
-  names = first_names workload
+  last_names : (so_far : List Course) (who : ℕ) (read : SharedNames) (moment : IsMoment lines so_far who (NamesRead read))
+      → moment.earlier ≡ courses → moment.course ≡ one → read ≡ names_by so_far
+  last_names so_far who read moment first_is course_is =
+      let leaves = (names_left workload courses parties behind old new line answer given so goes).1 in
+      let its =
+      read_first so.names its_trace moment.first moment.rest read leaves.reads
+      (at_done so_far who (NamesRead read) moment first_is course_is) in
+      let stay : names_by (courses ++ at one [] ∷ []) ≡ names_by courses = names_more courses (at one []) in
+      its.its
+      ∙ so.leave
+      ∙ sym stay
+      ∙ ap (λ (first : List Done). names_by (courses ++ at one first ∷ [])) (sym its.none)
+      ∙ ap names_by (sym (until_then so_far who (NamesRead read) moment first_is course_is))
 
-  handed_so : AllByRecursion (IsHandedSo names) its_trace
-  handed_so =
-      acts_handed names goes.does.does.does.acts
-      (subst (AllByRecursion (IsTakenSo NAMES_SLOT names))
-      (steps_done old new goes.course line.participant goes.does.does.does.steps goes.does.does.does.made)
-      (all_taken_so old new goes.course (line_names workload courses parties behind old new line answer given so goes) names so.named
-      line.participant))
+  -- the state of a heap that it is handed
+  no_segs_at : (number : ℕ) (kept : Kept) → number < MAX_HEAPS → Fits number kept → IsNoSegs kept
+  no_segs_at number (Heap heap pen) few fits = tt
+  no_segs_at number (Segments segs) few fits = omega (arith, few, fits)
+  no_segs_at number (Names names) few fits = tt
 
-  -- it changes none
-  changed : (before : List Course) (first : List Done) → filter_map change_made (trace_of before) ≡ []
-      → AllByRecursion (IsHandedSo names) first → filter_map change_made (trace_of (before ++ at one first ∷ [])) ≡ []
-  changed before first were handed =
-      ap (filter_map change_made) (trace_more before (at one first))
-      ∙ filter_map-append change_made (trace_of before) first
-      ∙ ap (λ (changes : List NamesChange). changes ++ filter_map change_made first) were
-      ∙ none_changed names first handed
+  nothing_in_hand : (heap : ℕ) → None ≡ Some heap → ⊥
+  nothing_in_hand heap is = cc
 
-  last_handed : filter_map change_made (trace_of courses) ≡ [] → (so_far : List Course) (who : ℕ) (done : Done)
-      → (moment : IsMoment lines so_far who done) → moment.earlier ≡ courses → moment.course ≡ one → IsLeftBy workload so_far done
-  last_handed were so_far who (StatsRead heap counted) moment first_is course_is =
+  module _ (heap : ℕ) (history : List Entry) (first rest : List Done) (at_seen : its_trace ≡ first ++ HeapSeen heap history ∷ rest) where
+    took : Contains goes.does.does.held heap × (heap < MAX_HEAPS)
+    took =
+        seen_held workload.participants heap goes.does.does.does.acts history
+        (subst (λ (trace : List Done). Contains trace (HeapSeen heap history)) (sym at_seen) (among_at first (HeapSeen heap history) rest))
+
+    slot : IsAt old.slots heap
+    slot = at_place old.slots heap (omega (arith, took.1, is_hall.slots))
+
+    no_segs : IsNoSegs slot.it.kept
+    no_segs = no_segs_at heap slot.it.kept took.1 (is_hall.fits heap slot.it slot.there)
+
+    seen_is : (history ≡ history_of slot.it.kept) × ((own : OwnCall) → Contains (calls_in first) own → own.heap ≡ heap → ⊥)
+    seen_is =
+        let along =
+        slot_along workload courses parties behind old new line answer given so goes heap slot.it.kept (value_at old heap slot.it slot.there)
+        no_segs in
+        acts_seen workload.participants heap took.1 line.participant slot.it.kept no_segs goes.does.does.does.acts (nothing_in_hand heap)
+        goes.does.does.once along.last
+        (along_front heap line.participant goes.does.does.does.steps (tells_one_more line.participant (lines_at old line.participant))
+        slot.it.kept along.last (tt, tt) along.along)
+        first rest history at_seen
+
+    pub seen_left : history ≡ history_by heap none_made (courses ++ at one first ∷ [])
+    seen_left =
+        seen_is.0
+        ∙ ap history_in (sym slot.there)
+        ∙ so.in_order heap
+        ∙ sym
+        (history_append heap none_made courses (at one first)
+        ∙ ap (λ (entries : List Entry). history_by heap none_made courses ++ entries)
+        (none_for line.participant heap (calls_made none_made line.participant courses + 1) (calls_in first) seen_is.1)
+        ∙ append-nil (history_by heap none_made courses))
+
+  last_handed : (so_far : List Course) (who : ℕ) (done : Done) (moment : IsMoment lines so_far who done) → moment.earlier ≡ courses
+      → moment.course ≡ one → IsLeftBy workload so_far done
+  last_handed so_far who (StatsRead heap counted) moment first_is course_is =
       last_read so_far who heap counted moment first_is course_is
-  last_handed were so_far who (NamesRead read) moment first_is course_is =
-      let at_read : its_trace ≡ moment.first ++ NamesRead read ∷ moment.rest =
-      ap (λ (course : Course). course.trace) (sym course_is) ∙ moment.trace in
-      let all : AllByRecursion (IsHandedSo names) (moment.first ++ NamesRead read ∷ moment.rest) =
-      subst (AllByRecursion (IsHandedSo names)) at_read handed_so in
-      let its : read ≡ no_changes = all_at (IsHandedSo names) moment.first (NamesRead read) moment.rest all in
-      let front : AllByRecursion (IsHandedSo names) moment.first =
-      (all_split (IsHandedSo names) moment.first (NamesRead read ∷ moment.rest) all).0 in
-      let until : so_far ≡ courses ++ at one moment.first ∷ [] =
-      moment.until
-      ∙ ap (λ (earlier : List Course). earlier ++ at moment.course moment.first ∷ []) first_is
-      ∙ ap (λ (course : Course). courses ++ at course moment.first ∷ []) course_is in
-      let none : filter_map change_made (trace_of so_far) ≡ [] =
-      ap (λ (lines : List Course). filter_map change_made (trace_of lines)) until ∙ changed courses moment.first were front in
-      its ∙ ap (λ (changes : List NamesChange). fold names_with no_changes changes) (sym none)
-  last_handed were so_far who (HeapSeen heap history) moment first_is course_is =
-      absurd (all_at (IsHandedSo names) moment.first (HeapSeen heap history) moment.rest
-      (subst (AllByRecursion (IsHandedSo names)) (ap (λ (course : Course). course.trace) (sym course_is) ∙ moment.trace) handed_so))
-  last_handed were so_far who _ moment first_is course_is = tt
+  last_handed so_far who (NamesRead read) moment first_is course_is = last_names so_far who read moment first_is course_is
+  last_handed so_far who (HeapSeen heap history) moment first_is course_is =
+      seen_left heap history moment.first moment.rest (at_done so_far who (HeapSeen heap history) moment first_is course_is)
+      ∙ ap (history_by heap none_made) (sym (until_then so_far who (HeapSeen heap history) moment first_is course_is))
+  last_handed so_far who _ moment first_is course_is = tt
 
-  handed_all : AreOfLinesBefore workload courses → (so_far : List Course) (who : ℕ) (done : Done) → IsMoment lines so_far who done
+  pub handed_all : AreOfLinesBefore workload courses → (so_far : List Course) (who : ℕ) (done : Done) → IsMoment lines so_far who done
       → IsLeftBy workload so_far done
   handed_all are so_far who done moment =
       by_place (last_or_earlier courses one moment.earlier moment.course moment.later moment.lines)
     where
       by_place : IsLastOrEarlier courses one moment.earlier moment.course moment.later → IsLeftBy workload so_far done
-      by_place (IsLastOrEarlier.last first_is course_is) = last_handed are.unchanged so_far who done moment first_is course_is
+      by_place (IsLastOrEarlier.last first_is course_is) = last_handed so_far who done moment first_is course_is
       by_place (IsLastOrEarlier.early more is) =
-          are.handed so_far who done
+          are so_far who done
           (record {
             earlier = moment.earlier;
             course = moment.course;
@@ -272,10 +306,7 @@ module _ (workload : Workload) (courses : List Course) (parties behind : List Pa
             until = moment.until;
           })
 
-  pub counted_all : AreOfLinesBefore workload courses → AreOfLinesBefore workload lines
-  counted_all are = record { handed = handed_all are; unchanged = changed courses its_trace are.unchanged handed_so }
-
 -- so it is after each line
 pub counted_goes_on : CountedGoesOnByLine
 counted_goes_on workload courses parties behind old new line answer given is_hall so goes are =
-    counted_all workload courses parties behind old new line answer given is_hall so goes are
+    handed_all workload courses parties behind old new line answer given is_hall so goes are

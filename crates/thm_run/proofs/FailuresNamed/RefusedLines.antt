@@ -1,4 +1,4 @@
--- Lines that attach and are refused, by the calls of a participant's mapper: each shows its call in what was done for the participant's
+-- Lines that map pages and are refused, by the calls of a participant's mapper: each shows its call in what was done for the participant's
 -- lines, and where these calls rise no two show one call.
 use Rattle.std.proofs.Common.{◌≡◌, ◌∙◌, ◌==◌, ◌⊎◌, ℕ, zero, suc, ◌<◌, true, false, List, [], ◌∷◌, ◌++◌, length, get_or, Some, inl, inr, refl, ap, sym, subst, arith, eq-eqb}
 use Rattle.std.specs.Prelude.{Contains, cond, slice_get, slice_index}
@@ -17,7 +17,7 @@ use Rattle.hp_proc.specs.LinesDone.{AreDone, Course, IsDone, courses_of, trace_o
 use Rattle.hp_proc.specs.Handed.{calls_failed}
 use Rattle.thm_run.specs.EndLaws.{IsRefusedMapping}
 use Rattle.thm_run.specs.SoFar.{trace_for}
-use Rattle.thm_run.proofs.LineSteps.LineTries.{line_refused}
+use Rattle.thm_run.proofs.FailuresNamed.MapsRefused.{mapping_refused}
 use Rattle.thm_run.proofs.FailuresNamed.RefusedCalls.{refusals_both}
 
 -- what was done for a participant's lines, with one more before them: one of its own, or another's
@@ -50,11 +50,11 @@ rise_from : (xs : List ℕ) → IsStrictlyIncreasing xs → Rises xs
 rise_from xs rising i j before within = AllPairs-from_increasing xs rising i j 0 before within
 
 module _ (workload : Workload) (who call : ℕ) where
-  -- a line that attaches and is refused shows that call alone
+  -- a line that maps pages and is refused shows that call alone
   shows_call : (standing : Standing) (course : Course) → IsDone workload standing course → IsRefusedMapping who call course
       → calls_failed course.trace ≡ call ∷ []
   shows_call standing course done refused =
-      line_refused course.line done.facts call course.trace refused.act
+      mapping_refused course.line course.line.act done.facts call course.trace refused.maps
       (subst (λ (given : Answer). Leads (doing_of course.line course.line.act done.facts) course.trace (Doing.Ended given)) refused.answer
       done.does)
 

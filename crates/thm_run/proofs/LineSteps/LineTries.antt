@@ -1,4 +1,4 @@
--- How often a line tries to attach: once at most, and only where its participant is out.
+-- How often a line tries to attach: once at most, and only where its participant is out; and what it shows where it is refused.
 use Rattle.std.proofs.Common.{◌≡◌, ◌∙◌, ℕ, ◌<◌, ◌≤◌, Bool, true, false, List, [], ◌∷◌, ◌++◌, refl, ap, sym, subst, arith}
 use Rattle.std.specs.List.{All}
 use Rattle.std.proofs.lemmas.List.Elements.{All-head, All-tail}
@@ -101,16 +101,11 @@ refused_by call records (caught.Elsewhere row number got) is =
     let own : call ≡ number = cc in
     ap (λ call. call ∷ []) (sym own)
 
-refused_trace : (attached : Bool) (call : ℕ) (trace : List Done) → IsAttachTrace attached (answer.Refused call) trace
+pub line_refused : (attached : Bool) (call : ℕ) (trace : List Done) → Leads (attaching attached) trace (Ended (answer.Refused call))
     → calls_failed trace ≡ call ∷ []
-refused_trace attached call trace (already is was) = cc
-refused_trace attached call trace (tried records ended out is ends) =
-    ap calls_failed is ∙ ap (λ calls. calls ++ []) (refused_by call records ended ends)
-
-pub line_refused : (line : Line) (facts : Facts) (call : ℕ) (trace : List Done) → line.act ≡ act.Attach
-    → Leads (doing_of line line.act facts) trace (Ended (answer.Refused call)) → calls_failed trace ≡ call ∷ []
-unfolding doing_of
-line_refused line facts call trace attaches leads =
-    refused_trace facts.attached call trace
-    (attach_trace facts.attached (answer.Refused call) trace
-    (subst (λ (does : Act). Leads (doing_of line does facts) trace (Ended (answer.Refused call))) attaches leads))
+line_refused attached call trace leads = by_trace (attach_trace attached (answer.Refused call) trace leads)
+  where
+    by_trace : IsAttachTrace attached (answer.Refused call) trace → calls_failed trace ≡ call ∷ []
+    by_trace (already is was) = cc
+    by_trace (tried records ended out is ends) =
+        ap calls_failed is ∙ ap (λ calls. calls ++ []) (refused_by call records ended ends)

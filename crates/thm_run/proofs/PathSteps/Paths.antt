@@ -215,7 +215,7 @@ module _ (count who : ℕ) where
         standing = comes.standing;
         lines = comes.lines;
         trace = comes.trace;
-        path = path_then count who seat last last steps (Notes first ∷ (Notes second ∷ [])) comes.path
+        path = path_then seat last last steps (Notes first ∷ (Notes second ∷ [])) comes.path
             (SeatTrace.mails last last last (Notes first) (Notes second ∷ []) (Mails.notes last first)
             (SeatTrace.mails last last last (Notes second) [] (Mails.notes last second) (SeatTrace.ends last)));
       }

@@ -1,6 +1,7 @@
 -- The lines of external heaps and of memzones go orderly to their ends: they look at no log, and what they allocate is as in any other line.
-use Rattle.std.proofs.Common.{◌≡◌, ◌∙◌, ◌==◌, ℕ, Bool, true, false, not, List, [], ◌∷◌, ◌++◌, append-nil, length, map, Option, Some, None, Result, Ok, Err, is_some, find, refl, ap, sym, subst, if◌then◌else◌}
+use Rattle.std.proofs.Common.{◌≡◌, ◌∙◌, ◌==◌, ◌-◌, ℕ, Bool, true, false, not, List, [], ◌∷◌, ◌++◌, append-nil, length, map, Option, Some, None, Result, Ok, Err, is_some, find, refl, ap, sym, subst, if◌then◌else◌}
 use Rattle.std.specs.List.{list_any}
+use Rattle.std.specs.Prelude.{◌^◌, min}
 use Rattle.std.proofs.lemmas.List.{map-append}
 use Rattle.hp_base.specs.Flags.{has_bit}
 use Rattle.hp_base.specs.declared.caught.Caught.{Caught}
@@ -18,12 +19,14 @@ use Rattle.hp_script.specs.declared.answer.Answer.TheVariants as answer
 use Rattle.hp_segs.specs.declared.fault.RangeFault.{RangeFault}
 use Rattle.hp_segs.specs.declared.fault.RangeFault.TheVariants as range
 use Rattle.hp_zone.specs.Directory.{PlainDirectory}
+use Rattle.hp_zone.specs.declared.name_change.NameChange.TheVariants.{Named, Range, RangeGone, Unnamed}
 use Rattle.hp_proc.specs.Doing.{Deed, Doing, Done, Given, Goes, Leads, gave}
 use Rattle.hp_proc.specs.Doing.Done.{Asked, Called, NamesChanged}
 use Rattle.hp_proc.specs.ExternalLines.{adding, adding_memory, calling, changing, chunk_mapped, destroying, destroying_heap, external_heap, leaving_all, leaving_chunk, leaving_memory, leaving_unless, lowest_data, lowest_member, making, making_heap, mapping, mapping_memory, on_chunks_of, on_external, planning, removing, removing_memory, removing_unless, seeing_heap}
 use Rattle.hp_proc.specs.Heaps.{has_name}
 use Rattle.hp_proc.specs.SharedNames.{HeapMeant, NamesChange, heaps_in, is_short_name, next_index}
 use Rattle.hp_proc.specs.SharedNames.HeapMeant.{External, NoHeap, NoName, OfSocket}
+use Rattle.hp_proc.specs.SharedNames.NamesChange.{OfHeaps}
 use Rattle.hp_proc.specs.ZoneLines.{continued, last_called}
 use Rattle.hp_proc.specs.declared.own_chunk.OwnChunk.{OwnChunk}
 use Rattle.thm_run.proofs.TracesTold.OrderlyTraces.{CutsNone, GoesOrderly, IsOrderly, asked_behind, call_orderly, ended_orderly, ends, goes_on, is_granted, tells, then_orderly}
@@ -62,7 +65,7 @@ module _ (looks : Bool) where
   making_orderly : (text : List ℕ) (socket : ℕ) (index : Option ℕ) → GoesOrderly looks false (making text socket index)
   making_orderly text socket None = ended_orderly looks answer.NoSpace false
   making_orderly text socket (Some index) =
-      changing_orderly _ (calling index (call.Name text socket) (Doing.Ended (answer.Socket socket)))
+      changing_orderly (OfHeaps (Named index socket text)) (calling index (call.Name text socket) (Doing.Ended (answer.Socket socket)))
       (calling_orderly index (call.Name text socket) (Doing.Ended (answer.Socket socket)) refl (λ found. tt)
       (ended_orderly looks (answer.Socket socket) false))
 
@@ -81,11 +84,12 @@ module _ (looks : Bool) where
   destroying_orderly index heap = by_count (length heap.chunks == 0)
     where
       by_count : (none : Bool) → GoesOrderly looks false
-          (if none then changing _ (calling index call.Unname (Doing.Ended answer.Done)) else Doing.Ended (answer.BusyChunks (length heap.chunks)))
+          (if none then changing (OfHeaps (Unnamed index)) (calling index call.Unname (Doing.Ended answer.Done))
+          else Doing.Ended (answer.BusyChunks (min (length heap.chunks) (2 ^ 32 - 1))))
       by_count true =
-          changing_orderly _ (calling index call.Unname (Doing.Ended answer.Done))
+          changing_orderly (OfHeaps (Unnamed index)) (calling index call.Unname (Doing.Ended answer.Done))
           (calling_orderly index call.Unname (Doing.Ended answer.Done) refl (λ found. tt) (ended_orderly looks answer.Done false))
-      by_count false = ended_orderly looks (answer.BusyChunks (length heap.chunks)) false
+      by_count false = ended_orderly looks (answer.BusyChunks (min (length heap.chunks) (2 ^ 32 - 1))) false
 
   pub unheap_orderly : (meant : HeapMeant) → GoesOrderly looks false (destroying_heap meant)
   unheap_orderly =
@@ -95,8 +99,9 @@ module _ (looks : Bool) where
   -- `add`
   adding_orderly : (addr len page index socket : ℕ) (plan : Result ℕ RangeFault) → GoesOrderly looks false (adding addr len page index socket plan)
   adding_orderly addr len page index socket (Ok list) =
-      changing_orderly _ (calling index (call.Chunk _) (Doing.Ended answer.Done))
-      (calling_orderly index (call.Chunk _) (Doing.Ended answer.Done) refl (λ found. tt) (ended_orderly looks answer.Done false))
+      let chunk : Chunk = record { list = list; addr = addr; len = len; page = page; socket = socket; attached = 0 } in
+      changing_orderly (OfHeaps (Range index addr len page)) (calling index (call.Chunk chunk) (Doing.Ended answer.Done))
+      (calling_orderly index (call.Chunk chunk) (Doing.Ended answer.Done) refl (λ found. tt) (ended_orderly looks answer.Done false))
   adding_orderly addr len page index socket (Err range.BadRange) = ended_orderly looks answer.BadRange false
   adding_orderly addr len page index socket (Err (range.Overlaps row)) = ended_orderly looks (answer.Overlaps row.addr) false
   adding_orderly addr len page index socket (Err range.NoSpace) = ended_orderly looks answer.NoSpace false
@@ -114,7 +119,7 @@ module _ (looks : Bool) where
   unless_orderly index addr len (Some address) member = ended_orderly looks (answer.BusyAddress address) false
   unless_orderly index addr len None (Some participant) = ended_orderly looks (answer.Attached participant) false
   unless_orderly index addr len None None =
-      changing_orderly _ (calling index (call.Unchunk addr len) (Doing.Ended answer.Done))
+      changing_orderly (OfHeaps (RangeGone index addr)) (calling index (call.Unchunk addr len) (Doing.Ended answer.Done))
       (calling_orderly index (call.Unchunk addr len) (Doing.Ended answer.Done) refl (λ found. tt) (ended_orderly looks answer.Done false))
 
   removing_orderly : (index addr len : ℕ) (heap : PlainHeap) (chunk : Option Chunk) → GoesOrderly looks false (removing index addr len heap chunk)

@@ -80,7 +80,6 @@ module _ (looks : Bool) where
   zone_put plain text len last mid given front back orderly leads = by_end back leads
     where
       by_end : (back : List Done) → Leads (Doing.Ended mid) back (Doing.Ended given) → IsOrderly looks given false (front ++ back)
-      unfolding Leads Goes
       by_end [] ended =
           let same : mid ≡ given = cc in
           subst (λ (given : Answer). IsOrderly looks given false (front ++ [])) same

@@ -39,7 +39,7 @@ long trace more = ap length (numbered_both trace more) ∙ length-append (number
 pub quiet_more : {old new : Seat} → Quietly old new → TakesMore old new 0
 quiet_more (Quietly.hears seat answered) = record { asked = omega arith; numbered = omega arith }
 quiet_more (Quietly.counts seat sent) = record { asked = omega arith; numbered = omega arith }
-quiet_more (Quietly.calls seat heap call answer none) =
+quiet_more (Quietly.calls seat heap call answer uncut) =
     record { asked = omega arith; numbered = long seat.trace (Called heap call answer ∷ []) }
 quiet_more (Quietly.notes seat elements chunks) = record { asked = omega arith; numbered = omega arith }
 quiet_more (Quietly.reads_names seat names) =
@@ -95,7 +95,7 @@ hold_more (Handles.attaches seat segs caught after tried) =
       asked = ap (λ (party : _). party.asked) tried.after_is ∙ omega arith;
       numbered = long seat.trace (Looked (length segs.log) ∷ CaughtUp (length segs.log) caught ∷ []);
     })
-hold_more (Handles.detaches seat segs told secondary none heard) = HoldMore.none (record { asked = omega arith; numbered = omega arith })
+hold_more (Handles.detaches seat segs told secondary bare heard) = HoldMore.none (record { asked = omega arith; numbered = omega arith })
 
 -- A NUMBER THAT IS TOLD
 

@@ -1,10 +1,11 @@
 -- Worked values: a line that makes one call of a heap, with its steps, is a way, and its call came in one hold of the heap. And what is kept
 -- out: another's growth for a heap in hand, and a line that takes a heap twice.
-use Rattle.std.proofs.Common.{◌≡◌, ◌≢◌, ◌∙◌, ◌==◌, ℕ, ◌≤◌, Bool, true, false, cond, List, [], ◌∷◌, ◌++◌, drop, length, None, Some, IfSome, refl, ap, sym, subst, arith, append-nil}
+use Rattle.std.proofs.Common.{◌≡◌, ◌≢◌, ◌∙◌, ◌==◌, ℕ, ◌<◌, ◌≤◌, Bool, true, false, cond, List, [], ◌∷◌, ◌++◌, drop, length, None, Some, IfSome, refl, ap, sym, subst, arith, append-nil}
 use Rattle.std.specs.List.{All}
 use Rattle.std.specs.Prelude.{flat_map}
 use Rattle.std.proofs.lemmas.List.{drop_at}
 use Rattle.std.proofs.lemmas.List.Elements.{All-cons, All-nil}
+use Rattle.hp_base.specs.declared.limits.TheConstants.{MAX_HEAPS}
 use Rattle.hp_hall.specs.HeapPairs.{pair_of}
 use Rattle.hp_hall.specs.Mail.{Gives, MailStep, Notes, Takes}
 use Rattle.hp_hall.specs.declared.kept.Kept.TheVariants.{Heap}
@@ -21,11 +22,13 @@ use Rattle.hp_segs.specs.declared.growth.Growth.{Growth}
 use Rattle.hp_serve.specs.Serving.{gives_segments, takes_segments}
 use Rattle.hp_stats.specs.StatViews.{PenView}
 use Rattle.hp_proc.specs.Acting.{Acts}
+use Rattle.hp_proc.specs.Awaiting.{HasAwaited}
 use Rattle.hp_proc.specs.Courses.{OwnCall, Standing, after_line, numbered_in}
 use Rattle.hp_proc.specs.Doing.{Done}
 use Rattle.hp_proc.specs.Doing.Done.{Called}
 use Rattle.hp_proc.specs.Histories.{entries_for, entry_for}
 use Rattle.hp_proc.specs.LinesDone.{Course}
+use Rattle.hp_proc.specs.NamesOfLines.{NamesOfLine}
 use Rattle.hp_proc.specs.ParticipantView.{ParticipantView, after_call, after_registering}
 use Rattle.hp_proc.specs.Progress.{AreOnce}
 use Rattle.hp_weave.specs.Holds.{Hold}
@@ -43,8 +46,8 @@ one_at_most false = omega arith
 
 module _ (count who : ℕ) (doer : ParticipantView) (me : doer.party.me ≡ who) (deadline : doer.party.deadline ≤ longest) (seat : Seat)
     (party : seat.party ≡ doer.party) (standing : seat.standing ≡ doer.context.standing) (taken given : HeapView) (pen : PenView)
-    (call : HeapCall) (answer : HeapAnswer) (uncut : run_cut answer ≡ []) (same : given.plain.index ≡ taken.plain.index) (line : Line)
-    (result : Answer)
+    (call : HeapCall) (answer : HeapAnswer) (uncut : run_cut answer ≡ []) (same : given.plain.index ≡ taken.plain.index)
+    (few : taken.plain.index < MAX_HEAPS) (line : Line) (result : Answer) (awaits : (steps : List MailStep) → HasAwaited line.act steps)
     (leaves : (after_registering line.act result (after_call doer)).context.standing
     ≡ after_line line result (Called taken.plain.index call answer ∷ []) doer.context.standing) where
   abbrev heap : ℕ
@@ -70,7 +73,7 @@ module _ (count who : ℕ) (doer : ParticipantView) (me : doer.party.me ≡ who)
   acts : Acts count None None (heap ∷ []) doer (after_call doer) course.trace steps
   acts =
       Acts.and_then None (Some heap) None (heap ∷ []) [] doer doer (after_call doer) [] (Called heap call answer ∷ [])
-      (Takes heap (Heap taken pen) ∷ []) giving (Acts.takes_heap doer taken pen)
+      (Takes heap (Heap taken pen) ∷ []) giving (Acts.takes_heap doer taken pen few)
       (Acts.and_then (Some heap) (Some heap) None [] [] doer (after_call doer) (after_call doer) (Called heap call answer ∷ []) [] [] giving
       (Acts.makes_call doer heap call answer uncut) gives)
 
@@ -98,6 +101,8 @@ module _ (count who : ℕ) (doer : ParticipantView) (me : doer.party.me ≡ who)
     held = heap ∷ [];
     once = once;
     acts = acts;
+    names = NamesOfLine.none refl refl refl;
+    awaited = awaits steps;
     path = comes.path;
     trace = comes.trace;
     lines = comes.lines
