@@ -5,12 +5,15 @@ pub mod HandAsked
 pub mod HandAttaches
 pub mod HandCalls
 pub mod HandCut
+pub mod HandDone
 pub mod HandExternal
 pub mod HandGiven
 pub mod HandGrown
+pub mod HandKept
 pub mod HandLeaves
 pub mod HandMarks
 pub mod HandMoved
+pub mod HandNamed
 pub mod HandSearched
 pub mod HandTied
 pub mod HandTried

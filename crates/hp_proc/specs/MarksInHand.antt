@@ -2,7 +2,7 @@
 use Rattle.std.specs.Prelude.{◌≡◌, ℕ, Some, true}
 use Rattle.hp_hall.specs.HallState.{HallState, OthersStay}
 use Rattle.hp_hall.specs.Holding.{AgreeWith}
-use Rattle.hp_hall.specs.Named.{NamesGoOn, seen_of_names}
+use Rattle.hp_hall.specs.Named.{GivesNames}
 use Rattle.hp_hall.specs.Telling.{has_names}
 use Rattle.hp_hall.specs.Values.{IsSoundKept}
 use Rattle.hp_hall.specs.declared.kept.Kept.TheVariants.{Names}
@@ -10,7 +10,7 @@ use Rattle.hp_hall.specs.declared.slot.TheConstants.{NAMES_SLOT}
 use Rattle.hp_heap.specs.History.{HeapView}
 use Rattle.hp_proc.specs.Heaps.{sockets_of}
 use Rattle.hp_proc.specs.HeldMarks.{HoldsMarked}
-use Rattle.hp_proc.specs.NamesInHand.{with_naming}
+use Rattle.hp_proc.specs.NamesInHand.{entries_in, with_naming}
 use Rattle.hp_proc.specs.ParticipantView.{ParticipantView}
 use Rattle.hp_serve.specs.Party.{IsSameParty}
 use Rattle.hp_zone.specs.declared.names.Names.{Names as NamesView}
@@ -23,7 +23,7 @@ pub record HoldsNamedMarked (me : ℕ) (doer : ParticipantView) (names : NamesVi
   pub was : NamesView
   pub taken : state.taken NAMES_SLOT ≡ Some (Names was)
   pub sound : IsSoundKept (Names names)
-  pub goes_on : NamesGoOn (seen_of_names was) (seen_of_names names)
+  pub goes_on : GivesNames (entries_in me state) was names
   pub agrees : AgreeWith (with_naming heap (state.part me)) names
   pub sockets : names.heaps.sockets ≡ sockets_of doer.context.pools
 

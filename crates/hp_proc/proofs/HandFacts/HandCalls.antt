@@ -122,7 +122,7 @@ module _ (doer : ParticipantView) (parts : ℕ → HeapPart) (log : List LogReco
   index_is : new.plain.index ≡ old.plain.index
   index_is = call_index (caller_of doer) call answer old new is
 
-  entries_by : (heap : ℕ) → (with_hand doer.party.me new parts heap).entries
+  pub entries_by : (heap : ℕ) → (with_hand doer.party.me new parts heap).entries
       ≡ (with_hand doer.party.me old parts heap).entries ++ entries_for doer.party.me heap (doer.context.calls + 1) (own ∷ [])
   entries_by heap = ⊎_elim
       (λ here.

@@ -1,5 +1,5 @@
 //! What the lines that attach a chunk and leave it do with its heap in hand, and how a participant leaves all chunks when it detaches.
-ghost use Rattle.std.specs.Prelude.{◌≡◌, ◌⊎◌, ◌^◌, ◌<◌, ◌≤◌, ℕ, [], ◌∷◌, IfErr, IfOk, IsOk, None, OnErr, OnOk, length};
+ghost use Rattle.std.specs.Prelude.{◌≡◌, ◌⊎◌, ◌^◌, ◌<◌, ◌≤◌, ℕ, List, [], ◌∷◌, IfErr, IfOk, IsOk, None, OnErr, OnOk, length};
 ghost use Rattle.hp_base.specs.declared.limits.TheConstants.{MAX_HEAPS};
 ghost use Rattle.hp_external.specs.Attaching.{Attaches, IsAttachFault, IsDetachFault, IsOwnChunkAt};
 ghost use Rattle.hp_external.specs.Naming.{IsThatHeap};
@@ -85,7 +85,8 @@ impl<'p, M: Mapper, F: Decide + Copy + Drop> Participant<'p, M, F> {
         ensures attached { OnOk result (Attaches (caller_of self.old) names.now.heaps.plain text.now addr len heap.old heap.new
             self.old.party.maps self.new.party.maps) }
         ensures refused { IfErr result (IsAttachFault self.old.party.me names.now.heaps.plain text.now addr len heap.old.plain
-            self.old.party.maps self.new.party.maps × (heap.new ≡ heap.old)) }
+            self.old.party.maps self.new.party.maps) }
+        ensures err { OnErr result (heap.new ≡ heap.old) }
         ensures only { self.new ≡ with_party (with_maps self.new.party.maps self.old.party) self.old }
         ensures looks { LooksAtSegs self.old.party.me (H.state hall.old) (H.state hall.new) }
         ensures goes_on { H.goes_on hall.old hall.new }

@@ -10,7 +10,7 @@ ghost use Rattle.hp_heap.specs.History.{IsCall};
 ghost use Rattle.hp_heap.specs.declared.entry.HeapAnswer.TheVariants as gives;
 ghost use Rattle.hp_heap.specs.declared.entry.HeapCall.TheVariants as call;
 ghost use Rattle.hp_proc.specs.Doing.{Doing};
-ghost use Rattle.hp_proc.specs.ExternalAnswers.{IsAddSaid, IsMadeSaid, IsMeant, destroy_said, remove_said};
+ghost use Rattle.hp_proc.specs.ExternalAnswers.{IsAddSaid, IsMadeSaid, IsNamedHeap, destroy_said, remove_said};
 ghost use Rattle.hp_proc.specs.ExternalLines.{planning, removing};
 ghost use Rattle.hp_proc.specs.HeldLines.{DestroysHeap, MakesHeap};
 ghost use Rattle.hp_proc.specs.LineInHall.{HasRoom};
@@ -164,7 +164,7 @@ impl<'p, M: Mapper, F: Decide + Copy + Drop> Participant<'p, M, F> {
     ) -> Result<Answer, AllocError>
         requires holds { HoldsNamedMarked self.old.party.me self.old names.old heap.old (H.state hall.old) }
         requires named { IsThatHeap names.old.heaps.plain text.now heap.old.plain }
-        requires meant { IsMeant names.old.heaps.plain text.now heap.old.plain.index }
+        requires meant { IsNamedHeap names.old.heaps.plain text.now heap.old.plain.index }
         requires room { HasRoom 1 heap.old self.old }
         ensures does { IfOk result (λ given. DoesNamedHeld self.old.party.me self.old self.new names.old names.new heap.old heap.new
             (H.state hall.old) (H.state hall.new) (planning addr len page heap.old.plain.index heap.old.plain.socket) (Doing.Ended given)) }
@@ -203,7 +203,7 @@ impl<'p, M: Mapper, F: Decide + Copy + Drop> Participant<'p, M, F> {
     ) -> Answer
         requires holds { HoldsNamedMarked self.old.party.me self.old names.old heap.old (H.state hall.old) }
         requires named { IsThatHeap names.old.heaps.plain text.now heap.old.plain }
-        requires meant { IsMeant names.old.heaps.plain text.now heap.old.plain.index }
+        requires meant { IsNamedHeap names.old.heaps.plain text.now heap.old.plain.index }
         requires room { HasRoom 1 heap.old self.old }
         ensures does { DoesNamedHeld self.old.party.me self.old self.new names.old names.new heap.old heap.new
             (H.state hall.old) (H.state hall.new) (removing heap.old.plain.index addr len heap.old.plain (chunk_at addr len heap.old.plain)) (Doing.Ended result) }

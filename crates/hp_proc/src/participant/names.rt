@@ -26,7 +26,8 @@ use std::alloc::AllocError;
 pub(crate) fn are_sound(names: &Names)
     ensures { IsSoundKept (Kept.Names names.now) }
 {
-    let _ = (names.heaps.log(), names.zones.log());
+    let _heaps = names.heaps.log();
+    let _zones = names.zones.log();
 }
 
 impl<'p, M: Mapper, F: Decide + Copy + Drop> Participant<'p, M, F> {
