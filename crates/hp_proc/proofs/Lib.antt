@@ -24,6 +24,7 @@ pub mod LinesApart
 pub mod LinesInHall
 pub mod LinesOrdered
 mod LookedUp
+pub mod Lookups
 pub mod MadeHeaps
 mod MadeHere
 pub mod Makers
