@@ -9,12 +9,17 @@ pub mod HandDone
 pub mod HandExternal
 pub mod HandGiven
 pub mod HandGrown
-pub mod HandLeaves
 pub mod HandKept
+pub mod HandLeaves
 pub mod HandMarks
 pub mod HandMoved
+<<<<<<< HEAD
 pub mod HandSearched
 pub mod HandNamed
+=======
+pub mod HandNamed
+pub mod HandSearched
+>>>>>>> origin/tog
 pub mod HandTied
 pub mod HandTried
 pub mod HeldBack
