@@ -13,13 +13,8 @@ pub mod HandKept
 pub mod HandLeaves
 pub mod HandMarks
 pub mod HandMoved
-<<<<<<< HEAD
 pub mod HandSearched
 pub mod HandNamed
-=======
-pub mod HandNamed
-pub mod HandSearched
->>>>>>> origin/tog
 pub mod HandTied
 pub mod HandTried
 pub mod HeldBack

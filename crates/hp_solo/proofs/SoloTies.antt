@@ -142,17 +142,21 @@ served_apart old new number (Some party) None numbered served = absurd served
 served_apart old new number (Some party) (Some after) numbered served =
     serving_narrow (λ who. who ≢ party.me) (λ who. who ≢ number) old new (λ who apart same. apart (same ∙ numbered party refl)) served.serving
 
+-- it is tied in its place
+served_place : (old new : HallView) (number : ℕ) (party after : Party) → party.me ≡ number → IsPartyServed old new party after
+    → IsTiedAt new number after
+served_place old new number party after me served = record {
+  number = served.same.me ∙ me;
+  tied = subst (λ (who : ℕ). IsTiedFor new who after) me served.tied;
+}
+
 served_tied : (old new : HallView) (number : ℕ) (party after : Option Party) (now : Party)
     → ((there : Party) → party ≡ Some there → there.me ≡ number) → IsServedAs old new party after → after ≡ Some now → IsTiedAt new number now
 served_tied old new number None None now numbered served is = cc
 served_tied old new number None (Some after) now numbered served is = absurd served
 served_tied old new number (Some party) None now numbered served is = absurd served
 served_tied old new number (Some party) (Some after) now numbered served is =
-    let me = numbered party refl in
-    subst (IsTiedAt new number) (same_Some after now is) (record {
-      number = served.same.me ∙ me;
-      tied = subst (λ (who : ℕ). IsTiedFor new who after) me served.tied;
-    })
+    subst (IsTiedAt new number) (same_Some after now is) (served_place old new number party after (numbered party refl) served)
 
 pub served_later : (old new : HallView) (party after : Option Party) → IsServedAs old new party after → IsLaterParty party after
 served_later old new None None served = tt
