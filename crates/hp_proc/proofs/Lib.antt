@@ -2,62 +2,65 @@ pub mod AddressLies
 mod AgreedLater
 pub mod AllocFacts
 pub mod AttachedLines
-pub mod HandFacts
 pub mod ChosenHeaps
 pub mod ChunkLies
 mod ChunksLeft
 pub mod Continued
+mod DumpLines
 mod ExternalMeant
 pub mod FoundZones
 pub mod HallMoments
 pub mod Halted
+pub mod HandFacts
+mod HeldArms
 pub mod InTurn
 pub mod Joining
 pub mod LawLemmas
 pub mod LeastData
+mod LeftHere
 pub mod LineEnds
 pub mod LineFacts
 pub mod LinesApart
 pub mod LinesInHall
 pub mod LinesOrdered
+mod LookedUp
 pub mod Lookups
 pub mod MadeHeaps
+mod MadeHere
 pub mod Makers
 pub mod Mapped
-mod HeldArms
-mod LeftHere
-mod MadeHere
 mod MarksApart
 mod MayAttachHere
 pub mod MeantHeaps
 pub mod NamedPlaces
-pub mod NamesFollow
 pub mod NamesAround
-pub mod WhosePages
+pub mod NamesFollow
 mod NamesHeld
 mod NamesRead
+pub mod Noted
 pub mod NotedCame
 pub mod NotedLeft
-pub mod Noted
 pub mod OrdinaryElements
 pub mod PagesStay
-pub mod PlacesRead
-pub mod Plans
 mod Permuted
+pub mod Plans
 mod PoolsFrom
 mod Registered
 mod RegisteredHere
 pub mod RegisteredLines
 pub mod ReleasedMemory
-pub mod ServesAside
-pub mod WaitsAside
-mod SharedMarks
 mod Reservations
 pub mod Rising
+pub mod ServesAside
+mod SharedMarks
 pub mod SocketHeapLemmas
 pub mod SocketNames
 mod StatsLines
 pub mod StepsOrdered
 pub mod TreeDeeds
 pub mod Unarmed
+pub mod WaitsAside
 pub mod WorkedLines
+pub mod ZoneAgrees
+pub mod ZoneElements
+pub mod ZoneNames

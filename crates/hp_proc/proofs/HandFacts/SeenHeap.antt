@@ -65,9 +65,9 @@ may_taken {me} {slot} few later slots may =
     }
 
 -- it waited a turn more, by which it has the names in hand, or has not, as before
-pub waited_told : {me : ℕ} {a b c d : HallState} → has_names (b.done me) ≡ has_names (a.done me) → Did me [] b c → (steps : List MailStep)
+pub waited_told : (me : ℕ) (a b c d : HallState) → has_names (b.done me) ≡ has_names (a.done me) → Did me [] b c → (steps : List MailStep)
     → IsAside steps → Did me steps c d → has_names (d.done me) ≡ has_names (a.done me)
-waited_told {me} {a} {b} {c} {d} told none steps aside did =
+waited_told me a b c d told none steps aside did =
     hands_aside steps aside did ∙ (hands_aside [] refl none ∙ told)
 
 -- what holds for each refusal holds for this

@@ -65,9 +65,11 @@ returns-in-Ok-clause-sees g c = λ external goes.
     let before = moment c.args.self.now.party.me c.args.self.now (g.H.Hall.state c.args.hall.now) in
     let after = moment c.args.self.now.party.me c.take_heap.new.self (g.H.Hall.state c.take_heap.new.hall) in
     let was : c.in_ok-heap.heap.plain.serves ≡ None = sym (ap (λ (heap : PlainHeap). heap.serves) same.plain) ∙ external in
-    subst (λ (heap : PlainHeap). Does (c.args.index ∷ []) _ _ (seeing_heap c.args.index goes) (goes heap) before (in_hand c.reserve.new.self after))
+    let old = g.H.Hall.state c.args.hall.now in
+    let did = did_in c.args.self.now.party.me old (g.H.Hall.state c.take_heap.new.hall) in
+    subst (λ (heap : PlainHeap). Does (c.args.index ∷ []) old.count did (seeing_heap c.args.index goes) (goes heap) before (in_hand c.reserve.new.self after))
     (sym same.plain)
-    (does_spared c.in_ok-heap.heap c.reserve.new.self same after _ _ (seeing_heap c.args.index goes) (goes c.in_ok-heap.heap.plain) before
+    (does_spared c.in_ok-heap.heap c.reserve.new.self same after old.count did (seeing_heap c.args.index goes) (goes c.in_ok-heap.heap.plain) before
     (c.in_ok-heap.ensures.sees was goes))
 
 pub returns-in-Ok-clause-hand : goal.returns-in-Ok-clause-hand

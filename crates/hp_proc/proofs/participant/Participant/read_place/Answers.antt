@@ -14,7 +14,7 @@ use Rattle.hp_proc.specs.PlaceLists.{place_named}
 use Rattle.hp_proc.specs.SharedNames.{heaps_in}
 use Rattle.hp_proc.proofs.HandFacts.Holds.{knew_same}
 use Rattle.hp_proc.proofs.NamesRead.{as_leaves, names_read, ready_read}
-use Rattle.hp_proc.proofs.PlacesRead.{places_read}
+use Rattle.hp_proc.proofs.WhosePages.{named_places}
 use Rattle.hp_serve.proofs.AskingFacts.AskedAlong.{on_err_any}
 use Rattle.hp_proc.proofs.participant.Participant.read_place.Goals as goal
 
@@ -53,7 +53,7 @@ returns g c =
         read = record {
           sockets = sockets;
           leaves = as_leaves doer names held.sound.1 sockets;
-          places = places_read doer.context.pools names.heaps held.sound.1 sockets;
+          places = named_places names.heaps held.sound.1 doer.context.pools sockets;
           context = held.context;
           reads = names_read doer mid names old at new held gave is.slots others;
         };

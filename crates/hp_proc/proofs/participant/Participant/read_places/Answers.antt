@@ -16,7 +16,7 @@ use Rattle.hp_proc.proofs.Halted.{halts_of}
 use Rattle.hp_proc.specs.Heaps.{sockets_of}
 use Rattle.hp_proc.proofs.HandFacts.Holds.{knew_same}
 use Rattle.hp_proc.proofs.NamesRead.{as_leaves, names_read, ready_read}
-use Rattle.hp_proc.proofs.PlacesRead.{places_read}
+use Rattle.hp_proc.proofs.WhosePages.{named_places}
 use Rattle.hp_serve.proofs.AskingFacts.AskedAlong.{on_err_any}
 use Rattle.hp_proc.proofs.participant.Participant.read_places.Goals as goal
 
@@ -55,7 +55,7 @@ returns g c =
         read = record {
           sockets = sockets;
           leaves = as_leaves doer names held.sound.1 sockets;
-          places = places_read doer.context.pools names.heaps held.sound.1 sockets;
+          places = named_places names.heaps held.sound.1 doer.context.pools sockets;
           context = held.context;
           reads = names_read doer mid names old at new held gave is.slots others;
         };

@@ -214,7 +214,7 @@ taking-preserved g c =
       stays = in_then so_far is.stays;
       context = is.context ∙ was.context;
       asked = is.asks.asked ∙ was.asked;
-      told = waited_told was.told (in_did was.stays (subst (λ (who : ℕ). Did who [] mid late) here tried.held.did)) one.0
+      told = waited_told c.args.self.now.party.me old mid late (g.H.Hall.state c.turn.new.hall) was.told (in_did was.stays (subst (λ (who : ℕ). Did who [] mid late) here tried.held.did)) one.0
           (turn_aside _ late.count (2 ^ 64 - 1) c.taking.self.party c.turn.new.self.party one.0 _ one.2) (in_did so_far one.1);
       goes_on = g.met.H.Hall.goes_on_then _ _ _ was.goes_on (g.met.H.Hall.goes_on_then _ _ _ tried.goes_on is.goes_on);
       clock = λ one. absurd (one.free c.try_take.new.self (c.args.index, _, tried.held.found));
@@ -251,7 +251,7 @@ returns-in_err-turn-in-Err g c =
     (λ heap. ap (λ (part : HeapPart). part.entries) (all.waits.parts.part heap)) all.same (is.context ∙ was.context) in
     let names : IsBesideTheNames me old new =
     names_stay all.waits.slots
-    (waited_told was.told (in_did was.stays (subst (λ (who : ℕ). Did who [] mid late) here tried.held.did)) one.0
+    (waited_told me old mid late new was.told (in_did was.stays (subst (λ (who : ℕ). Did who [] mid late) here tried.held.did)) one.0
     (turn_aside _ late.count (2 ^ 64 - 1) c.taking.self.party c.turn.new.self.party one.0 _ one.2) (in_did so_far one.1)) in
     let called : HasCalledBeside me doer c.turn.new.self old new = record {
       same = all.same;
