@@ -12,8 +12,8 @@ pub mod HandExternal
 pub mod HandFreed
 pub mod HandGiven
 pub mod HandGrown
-pub mod HandLeaves
 pub mod HandKept
+pub mod HandLeaves
 pub mod HandMarks
 pub mod HandMoved
 pub mod HandNamed
