@@ -12,8 +12,8 @@ pub mod HandExternal
 pub mod HandFreed
 pub mod HandGiven
 pub mod HandGrown
-pub mod HandLeaves
 pub mod HandKept
+pub mod HandLeaves
 pub mod HandMarks
 pub mod HandMoved
 pub mod HandNamed
@@ -25,5 +25,6 @@ pub mod HeldBack
 pub mod HeldOn
 pub mod LeftBack
 pub mod Holds
+pub mod NamedBetween
 pub mod OnceHeld
 pub mod SeenHeap

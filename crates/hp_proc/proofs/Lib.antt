@@ -1,5 +1,6 @@
 pub mod AddressLies
 mod AgreedLater
+pub mod AllocAgrees
 pub mod AllocFacts
 pub mod AllocLines
 pub mod AttachedLines
@@ -19,10 +20,12 @@ pub mod FoundZones
 pub mod HallMoments
 pub mod Halted
 pub mod InHandUntold
+mod HeldArms
 pub mod InTurn
 pub mod Joining
 pub mod LawLemmas
 pub mod LeastData
+mod LeftHere
 pub mod LineEnds
 pub mod LineFacts
 pub mod LinesApart
@@ -31,32 +34,30 @@ pub mod LinesOrdered
 pub mod Lookups
 mod LookedUp
 pub mod MadeHeaps
+mod MadeHere
 pub mod Makers
 pub mod Mapped
-mod HeldArms
 mod LeavingAll
 mod LeavingOn
 mod LeftHeld
-mod LeftHere
-mod MadeHere
 mod MappedHere
 mod MarksApart
 mod MayAttachHere
 pub mod MeantHeaps
 pub mod NamedPlaces
-pub mod NamesFollow
 pub mod NamesAround
 pub mod NamesBeside
+pub mod NamesFollow
 mod NamesHeld
 mod NamesRead
+pub mod Noted
 pub mod NotedCame
 pub mod NotedLeft
-pub mod Noted
 pub mod OrdinaryElements
 pub mod OwnNotes
 pub mod PagesStay
-pub mod Plans
 mod Permuted
+pub mod Plans
 mod PoolsFrom
 mod Registered
 mod RegisteredHere
@@ -83,3 +84,8 @@ pub mod ZoneNames
 mod ZonesWithout
 pub mod NamedTrees
 pub mod ThereDone
+mod ZoneServed
+mod ZoneHeld
+mod ZoneTrees
+mod LinesNamed
+mod ZoneLooked

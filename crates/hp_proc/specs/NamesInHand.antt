@@ -128,7 +128,7 @@ pub record HaltsNamedHeld (me : ℕ) (old new : ParticipantView) (before after :
 -- it did something with the names and a heap in hand, and has both in hand still; nobody else did anything
 pub record KeepsNamed (me : ℕ) (old new : ParticipantView) (names : NamesView) (heap heap' : HeapView) (from to : HallState) : Type 0 where
   pub held : KeepsHeld me old new heap heap' from to
-  pub names : HasNamesBeside me new names heap' to
+  pub beside : HasNamesBeside me new names heap' to
   pub others : OthersStay me from to
 
 -- nothing changed

@@ -277,7 +277,7 @@ module _ (doer mid last : ParticipantView) (names given : NamesView) (heap next 
         let slots = keeps.remains.slots in
         record {
           held = keeps;
-          names = record {
+          beside = record {
             told = keeps.knows.told ∙ has.told;
             was = has.was;
             taken = slots.taken NAMES_SLOT ∙ has.taken;
