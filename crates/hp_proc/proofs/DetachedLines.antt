@@ -1,15 +1,14 @@
 -- What was done of a line that detaches, and what it leaves.
-use Rattle.std.proofs.Common.{◌≡◌, ◌⊎◌, ◌∙◌, ℕ, ◌<◌, Bool, true, false, List, [], ◌∷◌, ◌++◌, append-nil, map, None, refl, ap, sym, subst, arith, inl, inr}
+use Rattle.std.proofs.Common.{◌≡◌, ◌⊎◌, ◌∙◌, ℕ, ◌<◌, Bool, true, false, List, [], ◌∷◌, ◌++◌, append-nil, map, None, refl, ap, sym, subst, arith}
 use Rattle.hp_base.specs.Telling.{Listener}
 use Rattle.hp_base.specs.declared.chunk.Chunk.{Chunk}
-use Rattle.hp_hall.specs.HallState.{HallState, HasMapped, OthersStay, SlotsStay}
+use Rattle.hp_hall.specs.HallState.{HallState}
 use Rattle.hp_hall.specs.Holding.{HeapPart}
 use Rattle.hp_hall.specs.Mail.{MailStep, Notes}
 use Rattle.hp_hall.specs.declared.note.Note.TheVariants.{Emptied}
 use Rattle.hp_log.specs.declared.log_record.LogRecord.{LogRecord}
 use Rattle.hp_maps.specs.Events.{IsToldByAddress}
 use Rattle.hp_maps.specs.MapsView.{chunk_rows}
-use Rattle.hp_script.specs.declared.answer.Answer.{Answer}
 use Rattle.hp_script.specs.declared.answer.Answer.TheVariants as answer
 use Rattle.hp_script.specs.declared.line.Act.{Act}
 use Rattle.hp_script.specs.declared.line.Act.TheVariants as act
@@ -31,16 +30,15 @@ use Rattle.hp_proc.proofs.LineFacts.{facts_for}
 use Rattle.hp_proc.proofs.LinesApart.{apart_nameless}
 use Rattle.hp_proc.proofs.TreeDeeds.{IsNameless, Only}
 use Rattle.hp_proc.specs.Acting.{Acts, AreAsked}
-use Rattle.hp_proc.specs.Contexts.{Context, after_calls}
 use Rattle.hp_proc.specs.Courses.{Standing, attached_after}
 use Rattle.hp_proc.specs.Doing.{Doing, Leads}
 use Rattle.hp_proc.specs.ExternalLines.{leaving_all}
-use Rattle.hp_proc.specs.LineInHall.{DoesHere, DoesLineHere, DoesOnceHere, IsReadyAgain, IsReadyIn, MayDetach, did_in, moment}
+use Rattle.hp_proc.specs.LineInHall.{DoesHere, DoesLineHere, DoesOnceHere, IsReadyIn, MayDetach, did_in, moment}
 use Rattle.hp_proc.specs.LineTrees.{doing_of}
 use Rattle.hp_proc.specs.Lines.{Facts, if_attached}
 use Rattle.hp_proc.specs.OwnChunks.{AreMarkedAs, chunks_of, own_chunk}
 use Rattle.hp_proc.specs.ParticipantView.{ParticipantView, with_standing}
-use Rattle.hp_proc.specs.Progress.{Does, DoesApart, DoesLine, DoesOnce, Moment, moment_of}
+use Rattle.hp_proc.specs.Progress.{Does, DoesApart, moment_of}
 use Rattle.hp_proc.specs.declared.own_chunk.OwnChunk.{OwnChunk}
 use Rattle.hp_proc.specs.declared.own_element.OwnElement.{OwnElement}
 

@@ -1,6 +1,6 @@
 -- What a participant notes to be attached, chunk by chunk: each stands before those after it, so that those of the first one's heap stand first.
-use Rattle.std.proofs.Common.{◌≡◌, ◌≢◌, ◌∙◌, ℕ, ◌<◌, ◌≤◌, Bool, true, false, ◌&&◌, ◌||◌, not, cond, List, [], ◌∷◌, ◌++◌, Contains, Option, Some, None, filter, length, refl, sym, ap, subst, arith, eqb, eq-eqb, inl, inr}
-use Rattle.std.specs.Prelude.{nat_lt, ⊤}
+use Rattle.std.proofs.Common.{◌≡◌, ◌≢◌, ◌∙◌, ℕ, ◌<◌, ◌≤◌, Bool, true, false, ◌&&◌, ◌||◌, not, List, [], ◌∷◌, ◌++◌, Contains, Some, None, filter, refl, sym, ap, subst, arith, eqb, eq-eqb, inl, inr}
+use Rattle.std.specs.Prelude.{nat_lt}
 use Rattle.std.specs.List.{AllByRecursion}
 use Rattle.std.proofs.lemmas.Bool.{cases_lt, cond-false, cond-true, eqb-true, false≢true, le-ltb, lt-ltb, ne_eqb, or_left, or_right}
 use Rattle.hp_base.specs.declared.limits.TheConstants.{MAX_HEAPS}
