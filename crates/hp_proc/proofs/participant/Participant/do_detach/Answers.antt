@@ -1,5 +1,5 @@
 -- One that is out does nothing; else it leaves all chunks, and then the roster, and notes that.
-use Rattle.std.proofs.Common.{◌≡◌, ◌∙◌, ◌<◌, ℕ, [], None, ap, arith, refl, subst, sym}
+use Rattle.std.proofs.Common.{◌≡◌, ◌≢◌, ◌∙◌, ◌<◌, ℕ, [], None, ap, arith, refl, subst, sym}
 use Rattle.std.proofs.lemmas.Bool.{false≢true}
 use Rattle.hp_hall.proofs.HallStates.{did_same}
 use Rattle.hp_proc.proofs.AttachedLines.{known_none}
@@ -67,7 +67,11 @@ returns-in_err-leave_all-clause-halts g c =
 
 pub returns-in_err-leave_all-clause-err : goal.returns-in_err-leave_all-clause-err
 returns-in_err-leave_all-clause-err g c =
-    on_err_any _ _ (λ (none : c.args.self.now.context.standing.chunks ≡ []). absurd (false≢true (c.in_err-leave_all.ensures.alone none).0))
+    let doer = c.args.self.now in
+    let so : doer.context.standing.chunks ≡ [] → (doer.party.listeners ≢ []) × (c.leave_all.new.self ≡ doer)
+    × (c.leave_all.new.hall ≡ c.args.hall.now) =
+    λ none. absurd (false≢true (c.in_err-leave_all.ensures.alone none).0) in
+    on_err_any _ _ so
 
 pub returns-in_err-leave_all-clause-alone : goal.returns-in_err-leave_all-clause-alone
 returns-in_err-leave_all-clause-alone g c = λ none. absurd (false≢true (c.in_err-leave_all.ensures.alone none).0)
@@ -134,15 +138,18 @@ returns-in_err-detach-clause-alone g c = λ none.
 
 pub returns-in_err-detach-clause-err : goal.returns-in_err-detach-clause-err
 returns-in_err-detach-clause-err g c =
+    let doer = c.args.self.now in
     let is = c.in_err-detach.ensures.err in
-    on_err_any _ _
-    (λ (none : c.args.self.now.context.standing.chunks ≡ []).
-    let so = c.leave_all.ensures.alone none in
+    let so : doer.context.standing.chunks ≡ [] → (doer.party.listeners ≢ []) × (c.detach.new.self ≡ doer)
+    × (c.detach.new.hall ≡ c.args.hall.now) =
+    λ none.
+    let left = c.leave_all.ensures.alone none in
     (
-      λ (empty : c.args.self.now.party.listeners ≡ []). is.1 (ap (λ (d : ParticipantView). d.party.listeners) so.1 ∙ empty),
-      is.0 ∙ so.1,
-      is.2 ∙ so.2,
-    ))
+      λ (empty : doer.party.listeners ≡ []). is.1 (ap (λ (d : ParticipantView). d.party.listeners) left.1 ∙ empty),
+      is.0 ∙ left.1,
+      is.2 ∙ left.2,
+    ) in
+    on_err_any _ _ so
 
 pub returns-in_err-detach-clause-ready : goal.returns-in_err-detach-clause-ready
 returns-in_err-detach-clause-ready g c = λ ready.
