@@ -3,6 +3,7 @@ mod AgreedLater
 pub mod AllocFacts
 pub mod AttachedLines
 pub mod HandFacts
+pub mod ChangedLines
 pub mod ChosenHeaps
 pub mod ChunkLies
 mod ChunksLeft

@@ -190,8 +190,7 @@ module _ (heap : ℕ) where
   stand_first [] rising least = refl
   stand_first (chunk ∷ chunks) rising least = elim (cases_lt heap chunk.heap) [
     | inl higher ↦
-        let above : AllByRecursion (λ (one : OwnChunk). heap < one.heap) (chunk ∷ chunks) =
-        (
+        let above : AllByRecursion (λ (one : OwnChunk). heap < one.heap) (chunk ∷ chunks) = (
           higher,
           AllByRecursion-each (λ (one : OwnChunk). heap < one.heap) chunks
               (λ one among.
@@ -240,8 +239,7 @@ module _ (heap : ℕ) where
 -- those of the first one's heap stand first
 pub first_ones : (chunk : OwnChunk) (chunks : List OwnChunk) → AreRising (chunk ∷ chunks) → AreFirstOf chunk.heap (chunk ∷ chunks)
 first_ones chunk chunks rising =
-    stand_first chunk.heap (chunk ∷ chunks) rising
-    (
+    stand_first chunk.heap (chunk ∷ chunks) rising (
       omega arith,
       AllByRecursion-each (λ (one : OwnChunk). chunk.heap ≤ one.heap) chunks
           (λ one among. before_heap chunk one (AllByRecursion-contains (λ (o : OwnChunk). is_before chunk o ≡ true) chunks one rising.0 among)),

@@ -2,7 +2,7 @@
 use Rattle.std.proofs.Common.{◌≡◌, ◌≢◌, ◌∙◌, ◌<◌, ℕ, [], None, ap, arith, refl, subst, sym}
 use Rattle.std.proofs.lemmas.Bool.{false≢true}
 use Rattle.hp_hall.proofs.HallStates.{did_same}
-use Rattle.hp_proc.proofs.AttachedLines.{known_none}
+use Rattle.hp_proc.proofs.ChangedLines.{known_none}
 use Rattle.hp_proc.proofs.DetachedLines.{joined_left, joined_out, line_detached, line_left, tree_left}
 use Rattle.hp_proc.proofs.DetachesHere.{alone_all, does_gone, left_same, may_leave, noted_standing, ready_then}
 use Rattle.hp_proc.proofs.Halted.{halts_of, line_halted}
@@ -110,8 +110,7 @@ returns-in_err-detach-clause-halts g c =
     let halts : HaltsLineHere me doer mid old new line =
     line_halted old.count (did_in me old new) line (moment me doer old) (moment me mid new)
     (facts_for doer.party.socket doer.context line.act None) (known_none doer.party.socket doer.context line act.Detach c.requires.act tt)
-    (leaving_all doer.context.standing.chunks) (tree_left line c.requires.act doer attached) refl
-    (
+    (leaving_all doer.context.standing.chunks) (tree_left line c.requires.act doer attached) refl (
       left.held,
       left.once,
       halts_of old.count (did_in me old new) (leaving_all doer.context.standing.chunks) (Doing.Ended answer.Done) (moment me doer old)
@@ -143,8 +142,7 @@ returns-in_err-detach-clause-err g c =
     let so : doer.context.standing.chunks ≡ [] → (doer.party.listeners ≢ []) × (c.detach.new.self ≡ doer)
     × (c.detach.new.hall ≡ c.args.hall.now) =
     λ none.
-    let left = c.leave_all.ensures.alone none in
-    (
+    let left = c.leave_all.ensures.alone none in (
       λ (empty : doer.party.listeners ≡ []). is.1 (ap (λ (d : ParticipantView). d.party.listeners) left.1 ∙ empty),
       is.0 ∙ left.1,
       is.2 ∙ left.2,
