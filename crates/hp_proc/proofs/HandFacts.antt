@@ -10,8 +10,8 @@ pub mod HandDone
 pub mod HandExternal
 pub mod HandGiven
 pub mod HandGrown
-pub mod HandLeaves
 pub mod HandKept
+pub mod HandLeaves
 pub mod HandMarks
 pub mod HandMoved
 pub mod HandNamed

@@ -15,10 +15,12 @@ mod DumpLines
 pub mod FoundZones
 pub mod HallMoments
 pub mod Halted
+mod HeldArms
 pub mod InTurn
 pub mod Joining
 pub mod LawLemmas
 pub mod LeastData
+mod LeftHere
 pub mod LineEnds
 pub mod LineFacts
 pub mod LinesApart
@@ -27,40 +29,37 @@ pub mod LinesOrdered
 pub mod Lookups
 mod LookedUp
 pub mod MadeHeaps
+mod MadeHere
 pub mod Makers
 pub mod Mapped
-mod HeldArms
 mod LeavingAll
 mod LeavingOn
 mod LeftHeld
-mod LeftHere
-mod MadeHere
 mod MarksApart
 mod MayAttachHere
 pub mod MeantHeaps
 pub mod NamedPlaces
-pub mod NamesFollow
 pub mod NamesAround
+pub mod NamesFollow
 mod NamesHeld
 mod NamesRead
+pub mod Noted
 pub mod NotedCame
 pub mod NotedLeft
-pub mod Noted
 pub mod OrdinaryElements
 pub mod OwnNotes
 pub mod PagesStay
-pub mod Plans
 mod Permuted
+pub mod Plans
 mod PoolsFrom
 mod Registered
 mod RegisteredHere
 pub mod RegisteredLines
 pub mod ReleasedMemory
-pub mod ServesAside
-pub mod WaitsAside
-mod SharedMarks
 mod Reservations
 pub mod Rising
+pub mod ServesAside
+mod SharedMarks
 pub mod SocketHeapLemmas
 pub mod SocketNames
 mod StatsLines
@@ -68,6 +67,7 @@ pub mod StepsOrdered
 pub mod TreeDeeds
 pub mod Unarmed
 pub mod WhosePages
+pub mod WaitsAside
 pub mod WorkedLines
 pub mod ZoneAgrees
 pub mod ZoneElements
