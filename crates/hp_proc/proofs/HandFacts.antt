@@ -1,6 +1,7 @@
 pub mod BesideNames
 pub mod Boxed
 pub mod Forgotten
+pub mod HandAgain
 pub mod HandAllocates
 pub mod HandAsked
 pub mod HandAttaches
@@ -8,6 +9,7 @@ pub mod HandCalls
 pub mod HandCut
 pub mod HandDone
 pub mod HandExternal
+pub mod HandFreed
 pub mod HandGiven
 pub mod HandGrown
 pub mod HandKept
@@ -17,10 +19,12 @@ pub mod HandMoved
 pub mod HandNamed
 pub mod HandSearched
 pub mod HandTied
+pub mod HandTraded
 pub mod HandTried
 pub mod HeldBack
 pub mod HeldOn
 pub mod LeftBack
 pub mod Holds
+pub mod NamedBetween
 pub mod OnceHeld
 pub mod SeenHeap

@@ -96,10 +96,10 @@ context_joined calls more old mid new here there =
 module _ {held more : List ℕ} (count : ℕ) (here_did there_did did : List MailStep → Type 0) (doing left rest : Doing) (old mid new : Moment)
     (join : (first second : List MailStep) → here_did first → there_did second → did (first ++ second))
     (here : Does held count here_did doing left old mid) (there : Does more count there_did left rest mid new) where
-  abbrev whole : List Done
+  abbrev pub whole : List Done
   whole = here.trace ++ there.trace
 
-  calls_are : calls_in whole ≡ calls_in here.trace ++ calls_in there.trace
+  pub calls_are : calls_in whole ≡ calls_in here.trace ++ calls_in there.trace
   calls_are = calls_on here.trace there.trace
 
   pub length_is : length (calls_in here.trace) + length (calls_in there.trace) ≡ length (calls_in whole)

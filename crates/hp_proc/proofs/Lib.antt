@@ -1,11 +1,15 @@
 pub mod AddressLies
 mod AgreedLater
 pub mod AllocFacts
+pub mod AllocLines
 pub mod AttachedLines
+pub mod AwaitedLines
 pub mod HandFacts
 pub mod ChangedLines
 pub mod ChosenHeaps
 pub mod ChunkLies
+mod AddedHere
+mod ChunkCame
 mod ChunksLeft
 pub mod Continued
 mod ExternalMeant
@@ -16,6 +20,7 @@ pub mod FoundZones
 pub mod HallMoments
 pub mod Halted
 mod HeldArms
+pub mod InHandUntold
 pub mod InTurn
 pub mod Joining
 pub mod LawLemmas
@@ -35,12 +40,14 @@ pub mod Mapped
 mod LeavingAll
 mod LeavingOn
 mod LeftHeld
+mod MappedHere
 mod MarksApart
 mod MayAttachHere
 pub mod MeantHeaps
 pub mod NamedPlaces
 pub mod NamesAround
 pub mod NamesFollow
+pub mod NamesBeside
 mod NamesHeld
 mod NamesRead
 pub mod Noted
@@ -56,10 +63,13 @@ mod Registered
 mod RegisteredHere
 pub mod RegisteredLines
 pub mod ReleasedMemory
+pub mod RemovedHere
+pub mod ServesAside
+pub mod WaitsAside
+pub mod ServedLines
+mod SharedMarks
 mod Reservations
 pub mod Rising
-pub mod ServesAside
-mod SharedMarks
 pub mod SocketHeapLemmas
 pub mod SocketNames
 mod StatsLines
@@ -67,8 +77,8 @@ pub mod StepsOrdered
 pub mod TreeDeeds
 pub mod Unarmed
 pub mod WhosePages
-pub mod WaitsAside
 pub mod WorkedLines
 pub mod ZoneAgrees
 pub mod ZoneElements
 pub mod ZoneNames
+mod ZonesWithout
