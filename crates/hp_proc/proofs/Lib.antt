@@ -1,5 +1,6 @@
 pub mod AddressLies
 mod AgreedLater
+pub mod AllocAgrees
 pub mod AllocFacts
 pub mod AllocLines
 pub mod AttachedLines
@@ -82,3 +83,8 @@ pub mod ZoneAgrees
 pub mod ZoneElements
 pub mod ZoneNames
 mod ZonesWithout
+mod ZoneServed
+mod ZoneHeld
+mod ZoneTrees
+mod LinesNamed
+mod ZoneLooked
