@@ -22,7 +22,8 @@ use Rattle.hp_heap.specs.declared.entry.HeapCall.TheVariants as call
 use Rattle.hp_script.specs.declared.answer.Answer.{Answer}
 use Rattle.hp_script.specs.declared.answer.Answer.TheVariants as gives
 use Rattle.hp_zone.specs.declared.names.Names.{Names as NamesView}
-use Rattle.hp_proc.specs.Doing.{Doing, Done, calls_in}
+use Rattle.hp_proc.specs.Courses.{calls_in}
+use Rattle.hp_proc.specs.Doing.{Doing, Done}
 use Rattle.hp_proc.specs.Histories.{entries_for}
 use Rattle.hp_proc.specs.LineInHall.{HoldsIn, KeepsHeld, KnowsAsBefore, did_in, moment, moment_with}
 use Rattle.hp_proc.specs.NamesInHand.{KeepsAgreed, TakesAgreed}
