@@ -87,3 +87,5 @@ mod ZoneHeld
 mod ZoneTrees
 mod LinesNamed
 mod ZoneLooked
+pub mod NamedTrees
+pub mod ThereDone
