@@ -6,6 +6,7 @@ pub mod AllocLines
 pub mod AttachedLines
 pub mod AwaitedLines
 pub mod HandFacts
+pub mod ChangedLines
 pub mod ChosenHeaps
 pub mod ChunkLies
 mod AddedHere
@@ -19,8 +20,8 @@ mod DumpLines
 pub mod FoundZones
 pub mod HallMoments
 pub mod Halted
-pub mod InHandUntold
 mod HeldArms
+pub mod InHandUntold
 pub mod InTurn
 pub mod Joining
 pub mod LawLemmas
@@ -46,8 +47,8 @@ mod MayAttachHere
 pub mod MeantHeaps
 pub mod NamedPlaces
 pub mod NamesAround
-pub mod NamesBeside
 pub mod NamesFollow
+pub mod NamesBeside
 mod NamesHeld
 mod NamesRead
 pub mod Noted
