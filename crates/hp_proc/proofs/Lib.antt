@@ -12,7 +12,9 @@ pub mod ChunkLies
 mod AddedHere
 mod ChunkCame
 mod ChunksLeft
+mod ChunksNoted
 pub mod Continued
+mod ExternalLine
 mod ExternalMeant
 pub mod DetachedLines
 mod DetachesHere
