@@ -36,7 +36,7 @@ mod PoolsFrom
 mod Registered
 mod RegisteredHere
 pub mod RegisteredLines
-mod ReleasedMemory
+pub mod ReleasedMemory
 pub mod ServesAside
 pub mod WaitsAside
 mod SharedMarks
