@@ -272,9 +272,9 @@ module _ (workload : Workload) (courses : List Course) (parties behind : List Pa
           })
 
   -- it is handed the names first
-  line_reads_first : (trace : List Done) {steps : List MailStep} → NamesOfLine trace steps → ReadsFirst trace
-  line_reads_first trace (NamesOfLine.none nothing unread unchanged) = unread_first trace unread unchanged
-  line_reads_first trace (NamesOfLine.once taken given rest two is unread changed) = subst ReadsFirst (sym is) unread
+  line_reads_first : (done : List Done) {steps : List MailStep} → NamesOfLine done steps → ReadsFirst done
+  line_reads_first done (NamesOfLine.none nothing unread unchanged) = unread_first done unread unchanged
+  line_reads_first done (NamesOfLine.once taken given rest two is unread changed) = subst ReadsFirst (sym is) unread
 
   pub counted_all : AreOfLinesBefore workload courses → AreOfLinesBefore workload lines
   counted_all are = record {

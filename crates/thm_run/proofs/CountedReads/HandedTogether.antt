@@ -52,7 +52,7 @@ module _ (workload : Workload) (courses : List Course) (parties behind : List Pa
     few : index < MAX_HEAPS
     few = (took workload courses parties behind old new line answer given is_hall so goes index history (NamesRead names ∷ []) rest is).1
 
-    own_slot : SlotView
+    abbrev own_slot : SlotView
     own_slot = (slot workload courses parties behind old new line answer given is_hall so goes index history (NamesRead names ∷ []) rest is).it
 
     at_slot : slot_at old index ≡ Some own_slot

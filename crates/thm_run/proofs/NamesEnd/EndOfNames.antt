@@ -34,10 +34,10 @@ use Rattle.thm_run.specs.EndLaws.{IsAtEnd, IsGiven}
 use Rattle.thm_run.specs.Handing.{AreOfLinesBefore, NamesEndSo}
 use Rattle.thm_run.specs.SoFar.{IsOfDeclared, SoFar}
 
-declared_few : (count : ℕ) (courses : List Course) → AllByRecursion (IsOfDeclared count) courses
-    → AllByRecursion (λ course. course.line.participant < count) courses
-declared_few count [] all = tt
-declared_few count (course ∷ courses) all = (all.0.declared, declared_few count courses all.1)
+declared_few : (many : ℕ) (courses : List Course) → AllByRecursion (IsOfDeclared many) courses
+    → AllByRecursion (λ course. course.line.participant < many) courses
+declared_few many [] all = tt
+declared_few many (course ∷ courses) all = (all.0.declared, declared_few many courses all.1)
 
 module _ (workload : Workload) (courses : List Course) (answers : List Answer) (parties : List Party) (hall : HallView) (heaps : List HeapView)
     (segs : SegsView) (tables : List Table) (given : IsGiven workload) (so : SoFar workload courses parties hall)

@@ -98,7 +98,7 @@ module _ (high : SharedNames) where
       → ((front : List Course) (course : Course) (later : List Course) (names : SharedNames) (rest : List Done)
       → before ++ courses ≡ front ++ course ∷ later → course.trace ≡ NamesRead names ∷ rest → names ≡ names_by front)
       → Chain (names_by before) (held_by_all courses) high
-  lines_chain before [] ends first reads = sym (ap names_by (append-nil before)) ∙ ends
+  lines_chain before [] ends first reads = sym ends ∙ ap names_by (append-nil before)
   lines_chain before (course ∷ courses) ends first reads =
       let joined : (before ++ course ∷ []) ++ courses ≡ before ++ course ∷ courses = append_assoc before (course ∷ []) courses in
       chain_on course.line.participant course.trace (held_by_all courses) (names_by before) first.0

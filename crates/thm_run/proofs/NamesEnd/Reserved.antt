@@ -126,11 +126,11 @@ module _ (who number : ℕ) (given : Kept) (values : List Kept) (gives : GivesIn
           reserved names (sym (slice_get-set_other values number NAMES_SLOT given (λ same. apart (sym same))) ∙ there) zone among
 
 -- so it is along all steps
-pub all_reserved : (count : ℕ) (steps : List (ℕ × MailStep)) (values later : List Kept) → IsKeptBy count steps values later
-    → AreReserved values → AreReserved later
-all_reserved count [] values later by reserved = subst AreReserved (sym by) reserved
-all_reserved count (step ∷ steps) values later by reserved =
-    all_reserved count steps (values_after step.1 values) later by.1 (step_reserved step.0 step.1 by.0)
+pub all_reserved : (count : ℕ) (steps : List (ℕ × MailStep)) (values last : List Kept) → IsKeptBy count steps values last
+    → AreReserved values → AreReserved last
+all_reserved count [] values last by reserved = subst AreReserved (sym by) reserved
+all_reserved count (step ∷ steps) values last by reserved =
+    all_reserved count steps (values_after step.1 values) last by.1 (step_reserved step.0 step.1 by.0)
   where
     step_reserved : (who : ℕ) (made : MailStep) → IsStepOver count (who, made) values → AreReserved (values_after made values)
     step_reserved who (Posts to frame action posted) over = reserved
