@@ -14,7 +14,10 @@ pub mod StatsHanded
 pub mod StatsAtBoard
 pub mod ThreadsStats
 mod FirstLines
+pub mod NamesSeen
 mod SeatsTold
 mod SeenStates
+pub mod TakenByLines
 mod TakenFronts
+mod WaysCame
 pub mod StatesAtBoard
