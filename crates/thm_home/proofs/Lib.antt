@@ -1,4 +1,5 @@
 pub mod AllAtBoard
+pub mod AwaitedForAtBoard
 pub mod ThreadsEnded
 pub mod ThreadsHome
 pub mod ThreadsMail

@@ -14,6 +14,7 @@ use Rattle.hp_proc.specs.NamesOfLines.{NamesOfLine, names_read, steps_of_names}
 use Rattle.hp_proc.specs.SharedNames.{SharedNames}
 use Rattle.thm_run.specs.OwnLines.{WentByLines}
 use Rattle.thm_run.specs.Seats.{Seat}
+use Rattle.thm_moved.proofs.NamesAwaited.{last_both}
 use Rattle.thm_moved.proofs.NamesOfWays.{none_of_names}
 use Rattle.thm_moved.specs.AtBoard.{given_by, given_last}
 
@@ -76,11 +77,6 @@ seen_line known course steps (NamesOfLine.once taken given rest both trace unrea
       names = changes_only known.heaps steps
           ∙ (ap (fold changes_after known.heaps) both ∙ ap (λ (names : SharedNames). names.heaps) same);
     }
-
-pub last_both : (known : SharedNames) (courses more : List Course)
-    → given_last known (courses ++ more) ≡ given_last (given_last known courses) more
-last_both known [] more = refl
-last_both known (course ∷ courses) more = last_both (given_by known course.trace) courses more
 
 seen_both : (known : SharedNames) (courses more : List Course) (before steps : List MailStep) → HasSeen known courses before
     → HasSeen (given_last known courses) more steps → HasSeen known (courses ++ more) (before ++ steps)

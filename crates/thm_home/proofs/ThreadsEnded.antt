@@ -16,6 +16,7 @@ use Rattle.hp_segs.specs.SegsView.{SegsView}
 use Rattle.hp_segs.specs.declared.ask.Ask.{Ask}
 use Rattle.hp_zone.specs.declared.names.Names.{Names as NamesView}
 use Rattle.hp_serve.specs.Party.{Party}
+use Rattle.hp_proc.specs.AwaitedNames.{AreAwaitedFor}
 use Rattle.hp_proc.specs.Handed.{AreHanded}
 use Rattle.hp_proc.specs.Handing.{shared_of}
 use Rattle.hp_proc.specs.Heaps.{sockets_of}
@@ -40,7 +41,8 @@ use Rattle.thm_together.specs.CameHome.{courses_in_order}
 use Rattle.thm_together.specs.Failing as home
 use Rattle.hp_threads.specs.Running.{ThreadsLeave}
 use Rattle.thm_moved.specs.NamesLeft.{AreLeftSo}
-use Rattle.thm_home.proofs.AllAtBoard.{home_of_threads, names_changed_of_threads, names_handed_of_threads, names_left_of_threads, states_of_threads}
+use Rattle.thm_home.proofs.AllAtBoard.{awaited_of_threads, home_of_threads, names_changed_of_threads, names_handed_of_threads, names_left_of_threads, states_of_threads}
+use Rattle.thm_home.proofs.AwaitedForAtBoard.{HaveAwaitedFor}
 use Rattle.thm_home.specs.EndOfThreads.{CameHomeFrom, EndOfThreads, FailAsBrought, MayFailAt, MayFailSo, ThreadsEnd}
 
 module _ (workload : Workload) (firsts : List ParticipantView) (answers : List Answer) (heaps : List HeapView) (segs : SegsView)
@@ -99,6 +101,12 @@ module _ (workload : Workload) (firsts : List ParticipantView) (answers : List A
     left : AreLeftSo workload (shared_of names) heaps segs tables
     changed : IsPermutation (changes_made workload.participants (λ who. trace_of (came.home.courses who))) (changes_in (shared_of names))
     handed : (who : ℕ) → AreHanded (shared_of names) heaps who (trace_of (came.home.courses who))
+    awaited_for : HaveAwaitedFor came.home.courses heaps
+
+  awaited_in_order : HaveAwaitedFor came.home.courses heaps → AreAwaitedFor (courses_in_order workload came.home.courses) heaps
+  awaited_in_order awaited who place other lines course there awaits =
+      let is = subst (λ (own : ℕ → List Course). HaveAwaitedFor own heaps) each_is awaited who place other lines course there awaits in
+      record { names = is.names; states = is.states }
 
   all : (names : NamesView) → HasNames names → ThreadsEnd workload firsts answers heaps segs names tables
   all names has =
@@ -118,6 +126,7 @@ module _ (workload : Workload) (firsts : List ParticipantView) (answers : List A
         handed = λ who.
             subst (λ (courses : List Course). AreHanded (shared_of names) heaps who (trace_of (courses_of who courses))) (sym ended.1)
             (subst (λ (own : List Course). AreHanded (shared_of names) heaps who (trace_of own)) (sym (own_is who)) (has.handed who));
+        awaited_for = subst (λ (courses : List Course). AreAwaitedFor courses heaps) (sym ended.1) (awaited_in_order has.awaited_for);
         failed = subst (λ (courses : List Course). FailAsBrought firsts courses segs.asks) (sym ended.1) failed;
         alike = ends_alike workload answers heaps segs tables ended.0;
         pages = end_pages_alike workload answers heaps segs tables ended.0;
@@ -142,6 +151,7 @@ end_of_threads workload firsts answers heaps segs names tables watchers given de
           shown = names_handed_of_threads workload firsts answers heaps segs names tables watchers given declared leave who;
           states = states_of_threads workload firsts answers heaps segs names tables watchers given declared leave who;
       };
+      awaited_for = awaited_of_threads workload firsts answers heaps segs names tables watchers given declared leave;
     })
 
 -- its lines are those with which all came home

@@ -19,6 +19,7 @@ use Rattle.hp_segs.specs.SegsView.{SegsView}
 use Rattle.hp_segs.specs.declared.ask.Ask.{Ask}
 use Rattle.hp_segs.specs.declared.outcome.AskLog.{AskLog}
 use Rattle.hp_zone.specs.declared.names.Names.{Names as NamesView}
+use Rattle.hp_proc.specs.AwaitedNames.{AreAwaitedFor}
 use Rattle.hp_proc.specs.Ends.{IsEnd}
 use Rattle.hp_proc.specs.Handed.{AreHanded}
 use Rattle.hp_proc.specs.Handing.{shared_of}
@@ -65,7 +66,8 @@ pub record FailAsBrought (firsts : List ParticipantView) (courses : List Course)
 
 -- What participants leave that began so and did their lines on threads: an end of the workload, with names that opened with the heaps of its sockets,
 -- that have the changes of the lines and no others, and that agree with the heaps and with the claimed external memory: directory, chunks, memzones and
--- marks; what lines are handed of them and of the states of heaps are fronts of what there is and never grow shorter from line to line. Mappings failed
+-- marks; what lines are handed of them and of the states of heaps are fronts of what there is and never grow shorter from line to line, and after lines that
+-- await others they hold what those changed. Mappings failed
 -- only as the mappers may that they brought; all who are attached map what is in use alike, each page of a heap with it, and a growth that
 -- failed left no row; a line that is answered that there is no memory found no address in its heaps and was granted nothing; and the segment
 -- value came about by calls, each under its condition, among which each growth that failed left all else as the other calls meanwhile would have
@@ -79,6 +81,7 @@ pub record ThreadsEnd (workload : Workload) (firsts : List ParticipantView) (ans
   pub left : AreLeftSo workload (shared_of names) heaps segs tables
   pub changed : IsPermutation (changes_made workload.participants (did_of end.courses)) (changes_in (shared_of names))
   pub handed : (who : ℕ) → AreHanded (shared_of names) heaps who (did_of end.courses who)
+  pub awaited_for : AreAwaitedFor end.courses heaps
   pub failed : FailAsBrought firsts end.courses segs.asks
   pub alike : TablesAlike segs tables
   pub pages : PagesAlike heaps segs tables

@@ -12,6 +12,7 @@ pub mod MovesAlone
 pub mod MovesHeld
 pub mod MovesWithin
 pub mod NamesAtBoard
+pub mod NamesAwaited
 pub mod NamesChain
 pub mod NamesChanged
 pub mod NamesHeld
