@@ -1,4 +1,3 @@
-pub mod AgreedAtEnd
 pub mod AwaitedAtBoard
 pub mod CameToBoard
 pub mod ClosedHeaps
