@@ -13,8 +13,8 @@ pub mod HandKept
 pub mod HandLeaves
 pub mod HandMarks
 pub mod HandMoved
-pub mod HandNamed
 pub mod HandSearched
+pub mod HandNamed
 pub mod HandTied
 pub mod HandTried
 pub mod HeldBack
