@@ -1,4 +1,3 @@
-pub mod AgreedAtEnd
 pub mod AwaitedAtBoard
 pub mod CameToBoard
 pub mod ClosedHeaps
@@ -12,6 +11,7 @@ pub mod MovesAlone
 pub mod MovesHeld
 pub mod MovesWithin
 pub mod NamesAtBoard
+pub mod NamesAwaited
 pub mod NamesChain
 pub mod NamesChanged
 pub mod NamesHeld

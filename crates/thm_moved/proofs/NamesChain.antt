@@ -57,7 +57,7 @@ onward_from : (lower low : SharedNames) (shown : List SharedNames) (high : Share
 onward_from lower low [] high first on = later_on lower low high first on
 onward_from lower low (names ∷ shown) high first on = (later_on lower low names first on.0, on.1)
 
-onward_whole : (low : SharedNames) (shown : List SharedNames) (high : SharedNames) → AreOnward low shown high → AreLater low high
+pub onward_whole : (low : SharedNames) (shown : List SharedNames) (high : SharedNames) → AreOnward low shown high → AreLater low high
 onward_whole low [] high on = on
 onward_whole low (names ∷ shown) high on = later_on low names high on.0 (onward_whole names shown high on.1)
 
@@ -132,7 +132,7 @@ lines_onward high who (course ∷ courses) low known first held =
 
 -- WHAT THAT SAYS
 
-front_is : {A : Type 0} (whole front : List A) → BeginsWith whole front → take (length front) whole ≡ front
+pub front_is : {A : Type 0} (whole front : List A) → BeginsWith whole front → take (length front) whole ≡ front
 front_is whole front (rest, is) = ap (take (length front)) is ∙ take_at front rest (length front) refl
 
 fronts_of : (low : SharedNames) (shown : List SharedNames) (high : SharedNames) → AreOnward low shown high → All (AreFrontNames high) shown

@@ -149,7 +149,7 @@ module _ (who : ℕ) where
   }
 
   -- steps beside a line take no names
-  none_of_names : (steps : List MailStep) → AreOfNoHeap steps → steps_of_names steps ≡ []
+  pub none_of_names : (steps : List MailStep) → AreOfNoHeap steps → steps_of_names steps ≡ []
   none_of_names [] none = refl
   none_of_names (Posts to frame action posted ∷ steps) none = none_of_names steps none.1
   none_of_names (Fetches frame ∷ steps) none = none_of_names steps none.1

@@ -64,7 +64,7 @@ called_is : (heap : PlainHeap) → directory_name (naming_of heap) ≡ called he
 unfolding naming_of
 called_is heap = refl
 
-chunks_are : (heap : PlainHeap) → (naming_of heap).chunks ≡ map unmarked heap.chunks
+pub chunks_are : (heap : PlainHeap) → (naming_of heap).chunks ≡ map unmarked heap.chunks
 unfolding naming_of
 chunks_are heap = refl
 
