@@ -1,5 +1,6 @@
 pub mod BesideNames
 pub mod Boxed
+pub mod HandAgain
 pub mod HandAllocates
 pub mod HandAsked
 pub mod HandAttaches
@@ -7,6 +8,7 @@ pub mod HandCalls
 pub mod HandCut
 pub mod HandDone
 pub mod HandExternal
+pub mod HandFreed
 pub mod HandGiven
 pub mod HandGrown
 pub mod HandKept

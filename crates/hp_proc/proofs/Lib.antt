@@ -1,6 +1,7 @@
 pub mod AddressLies
 mod AgreedLater
 pub mod AllocFacts
+pub mod AllocLines
 pub mod AttachedLines
 pub mod ChosenHeaps
 pub mod ChunkLies
@@ -13,6 +14,7 @@ pub mod HallMoments
 pub mod Halted
 pub mod HandFacts
 mod HeldArms
+pub mod InHandUntold
 pub mod InTurn
 pub mod Joining
 pub mod LawLemmas
@@ -34,6 +36,7 @@ mod MayAttachHere
 pub mod MeantHeaps
 pub mod NamedPlaces
 pub mod NamesAround
+pub mod NamesBeside
 pub mod NamesFollow
 mod NamesHeld
 mod NamesRead
@@ -51,6 +54,7 @@ pub mod RegisteredLines
 pub mod ReleasedMemory
 mod Reservations
 pub mod Rising
+pub mod ServedLines
 pub mod ServesAside
 mod SharedMarks
 pub mod SocketHeapLemmas
@@ -60,7 +64,9 @@ pub mod StepsOrdered
 pub mod TreeDeeds
 pub mod Unarmed
 pub mod WaitsAside
+pub mod WhosePages
 pub mod WorkedLines
 pub mod ZoneAgrees
 pub mod ZoneElements
 pub mod ZoneNames
+mod ZonesWithout

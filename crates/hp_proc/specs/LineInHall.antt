@@ -333,6 +333,11 @@ ChoosesBy me old new None choice places same from to = (new ≡ old) × same
 abbrev pub ChoosesPlaces : ℕ → ParticipantView → ParticipantView → Options → List SearchedHeap → Type 0 → HallState → HallState → Type 0
 ChoosesPlaces me old new options places same from to = ChoosesBy me old new options.heap options.socket places same from to
 
+-- it stopped over that: it had read the names where a heap is named, and else nothing of its line was done
+abbrev pub StopsChoosing : ℕ → ParticipantView → ParticipantView → Option Part → HallState → HallState → Type 0
+StopsChoosing me old new (Some name) from to = (goes : SharedNames → Doing) → HaltsHere [] me old new from to (reading_names goes)
+StopsChoosing me old new None from to = (doing : Doing) → HaltsHere [] me old new from to doing
+
 -- it knows in which heaps it looks for what a line made: the one in which its own line put it, for which nothing was done, or, for which it read
 -- the names, all that have a name
 abbrev pub FindsBy : Bool → ℕ → ParticipantView → ParticipantView → Maker → List SearchedHeap → Type 0 → HallState → HallState → Type 0
