@@ -15,9 +15,10 @@ pub mod HandKept
 pub mod HandLeaves
 pub mod HandMarks
 pub mod HandMoved
-pub mod HandSearched
 pub mod HandNamed
+pub mod HandSearched
 pub mod HandTied
+pub mod HandTraded
 pub mod HandTried
 pub mod HeldBack
 pub mod HeldOn

@@ -1,9 +1,12 @@
+mod AddedHere
 pub mod AddressLies
 mod AgreedLater
 pub mod AllocFacts
 pub mod AllocLines
 pub mod AttachedLines
+pub mod AwaitedLines
 pub mod ChosenHeaps
+mod ChunkCame
 pub mod ChunkLies
 mod ChunksLeft
 pub mod Continued
@@ -31,6 +34,7 @@ pub mod MadeHeaps
 mod MadeHere
 pub mod Makers
 pub mod Mapped
+mod MappedHere
 mod MarksApart
 mod MayAttachHere
 pub mod MeantHeaps
@@ -44,6 +48,7 @@ pub mod Noted
 pub mod NotedCame
 pub mod NotedLeft
 pub mod OrdinaryElements
+pub mod OwnNotes
 pub mod PagesStay
 mod Permuted
 pub mod Plans
@@ -52,6 +57,7 @@ mod Registered
 mod RegisteredHere
 pub mod RegisteredLines
 pub mod ReleasedMemory
+pub mod RemovedHere
 mod Reservations
 pub mod Rising
 pub mod ServedLines

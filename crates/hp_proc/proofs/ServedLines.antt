@@ -43,7 +43,7 @@ naming socket pools line options request name names =
     serving pools request (tag_of line) (heaps_for socket (heaps_in (directory_in pools names)) (Some name.text) options.socket)
 
 -- the heaps that it tries are heaps, none twice, and no more than there may be
-module _ {me : ℕ} {doer mid : ParticipantView} {options : Options} {places : List SearchedHeap} {same : Type 0} {first second : HallState} where
+module _ (me : ℕ) (doer mid : ParticipantView) (options : Options) (places : List SearchedHeap) (same : Type 0) (first second : HallState) where
   pub chosen_once : (name : Option Part) → ChoosesBy me doer mid name options.socket places same first second → AreOnce (indexes places)
   chosen_once None chosen = places_once doer.context.pools doer.party.socket None options.socket places chosen.2
   chosen_once (Some name) chosen = one_once chosen.0 places chosen.1
@@ -143,8 +143,8 @@ module _ {H : Type 0} (state : H → HallState) (one two : H) (third : HallState
       its.read.context (halts heaps (named_places name found are its)))
 
 -- it stopped while it chose
-pub stopped_choosing : {me : ℕ} {doer mid : ParticipantView} {from to : HallState} (line : Line) (options : Options) (request : Request)
+pub stopped_choosing : (me : ℕ) (doer mid : ParticipantView) (from to : HallState) (line : Line) (options : Options) (request : Request)
     (name : Option Part) → StopsChoosing me doer mid name from to
     → HaltsHere [] me doer mid from to (alloc_by doer.party.socket doer.context.pools line options request name)
-stopped_choosing line options request None stops = stops _
-stopped_choosing line options request (Some name) stops = stops _
+stopped_choosing me doer mid from to line options request None stops = stops _
+stopped_choosing me doer mid from to line options request (Some name) stops = stops _

@@ -13,7 +13,8 @@ use Rattle.hp_hall.specs.Naming.{marked_by}
 use Rattle.hp_hall.specs.Own.{rows_known}
 use Rattle.hp_hall.specs.Telling.{has_names}
 use Rattle.hp_hall.specs.Values.{HasNames, IsSoundKept}
-use Rattle.hp_hall.specs.declared.kept.Kept.TheVariants.{Names}
+use Rattle.hp_hall.specs.declared.kept.Kept.{Kept}
+use Rattle.hp_hall.specs.declared.kept.Kept.TheVariants.{Heap, Names}
 use Rattle.hp_hall.specs.declared.slot.TheConstants.{NAMES_SLOT}
 use Rattle.hp_heap.specs.History.{HeapView}
 use Rattle.hp_maps.specs.Chunks.{rows_of_chunk}
@@ -197,11 +198,19 @@ pub record HoldsIn (me : ℕ) (doer : ParticipantView) (heap : HeapView) (state 
   pub named : (state.named me).sockets ≡ sockets_of doer.context.pools
   pub mapped : HasMapped me state
 
--- the heap of that index is the one that it has in hand, with the pen that it has taken with it
+-- a heap in hand is as it was taken, but for its room for calls
+pub record IsAsTaken (taken : ℕ → Option Kept) (heap : HeapView) : Type 0 where
+  pub was : HeapView
+  pub pen : PenView
+  pub out : taken heap.plain.index ≡ Some (Heap was pen)
+  pub same : was.plain ≡ heap.plain
+
+-- the heap of that index is the one that it has in hand, as it was taken, with the pen that it has taken with it
 pub record HoldsHeap (slot me : ℕ) (doer : ParticipantView) (heap : HeapView) (pen : PenView) (state : HallState) : Type 0 where
   pub holds : HoldsIn me doer heap state
   pub index : heap.plain.index ≡ slot
   pub taken_with : IsTakenWith state.taken heap.plain.index pen
+  pub as_taken : IsAsTaken state.taken heap
 
 -- a heap in hand has room for so many calls, and the numbers of its holder's calls have
 pub record HasRoom (calls : ℕ) (heap : HeapView) (doer : ParticipantView) : Type 0 where

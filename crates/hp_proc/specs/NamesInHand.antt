@@ -3,7 +3,7 @@ use Rattle.std.specs.Prelude.{◌≡◌, ℕ, ◌==◌, List, [], ◌∷◌, Ok,
 use Rattle.std.specs.Option.{option_map}
 use Rattle.hp_hall.specs.Giving.{IsGiveOf}
 use Rattle.hp_hall.specs.HallCalls.{HasGiven}
-use Rattle.hp_hall.specs.HallState.{Did, HallState, OthersStay, SlotsStayBut, known_to}
+use Rattle.hp_hall.specs.HallState.{HallState, OthersStay, SlotsStayBut, known_to}
 use Rattle.hp_hall.specs.Holding.{AgreeWith, HeapPart}
 use Rattle.hp_hall.specs.Named.{GivesNames}
 use Rattle.hp_hall.specs.Naming.{naming_of}
@@ -21,10 +21,7 @@ use Rattle.hp_proc.specs.NamesOfLines.{ChangesNames}
 use Rattle.hp_proc.specs.ParticipantView.{ParticipantView, with_calls}
 use Rattle.hp_proc.specs.Progress.{AreOnce, with_hand}
 use Rattle.hp_script.specs.declared.line.Act.{Act}
-use Rattle.hp_segs.specs.SegsView.{SegsView}
 use Rattle.hp_serve.specs.Party.{IsSameParty}
-use Rattle.hp_serve.specs.SegmentSlot.{StaysButParts}
-use Rattle.hp_serve.specs.Serving.{gives_segments, takes_segments}
 use Rattle.hp_zone.specs.Directory.{PlainDirectory}
 use Rattle.hp_zone.specs.declared.names.Names.{Names as NamesView}
 
@@ -139,13 +136,6 @@ pub record StandsStill (old new : ParticipantView) (before after : NamesView) (h
   pub doer : new ≡ old
   pub names : after ≡ before
   pub heap_is : heap' ≡ heap
-
--- it took the segment value and gave it back as it was
-pub record LooksAtSegs (me : ℕ) (old new : HallState) : Type 0 where
-  pub taken : SegsView
-  pub did : Did me (takes_segments taken ∷ gives_segments taken ∷ []) old new
-  pub stays : StaysButParts me old new
-  pub part : (heap : ℕ) → new.part me heap ≡ old.part me heap
 
 -- the heap of that index is the one that a line on external heaps means
 abbrev pub IsIndexMeant : Act → PlainDirectory → ℕ → Type 0

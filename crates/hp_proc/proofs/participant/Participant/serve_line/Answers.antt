@@ -76,13 +76,15 @@ heaps_to_try-requires g c = start_ready c.args.self.now c.reserve_element.new.se
 
 pub serve_request-requires-clause-places : goal.serve_request-requires-clause-places
 serve_request-requires-clause-places g c = λ place among.
-    chosen_of c.args.options.now.heap c.in_ok-places.ensures.does place
+    chosen_of c.reserve_element.new.self.party.me c.reserve_element.new.self c.heaps_to_try.new.self c.args.options.now (place_list c.in_ok-places.places)
+    (c.heaps_to_try.new.hall ≡ c.args.hall.now) (g.H.Hall.state c.args.hall.now) (g.H.Hall.state c.heaps_to_try.new.hall) c.args.options.now.heap c.in_ok-places.ensures.does place
     (subst (λ (places : List SearchedHeap). Contains places place) c.as_slice.ensures.value among)
 
 pub serve_request-requires-clause-apart : goal.serve_request-requires-clause-apart
 serve_request-requires-clause-apart g c =
     subst (λ (places : List SearchedHeap). AreOnce (map (λ (place : SearchedHeap). place.index) places)) (sym c.as_slice.ensures.value)
-    (chosen_once c.args.options.now.heap c.in_ok-places.ensures.does)
+    (chosen_once c.reserve_element.new.self.party.me c.reserve_element.new.self c.heaps_to_try.new.self c.args.options.now (place_list c.in_ok-places.places)
+    (c.heaps_to_try.new.hall ≡ c.args.hall.now) (g.H.Hall.state c.args.hall.now) (g.H.Hall.state c.heaps_to_try.new.hall) c.args.options.now.heap c.in_ok-places.ensures.does)
 
 -- who chose its heaps is ready for them
 mid_ready : {me : ℕ} {start mid : ParticipantView} {a : HallState} → HasCalled me start mid a → mid.party.me ≡ me → IsReadyIn mid.party.me mid a
@@ -218,7 +220,8 @@ pub returns-in_err-answer-clause-clock : goal.returns-in_err-answer-clause-clock
 returns-in_err-answer-clause-clock g c =
     serves_within g.H.Hall.pending (λ hall. IsBusy (g.H.Hall.state hall)) c.args.self.now c.reserve_element.new.self c.heaps_to_try.new.self
     (place_list c.in_ok-places.places) c.as_slice.result.now c.reserve_element.ensures c.heaps_to_try.ensures.ready.again.same.deadline
-    c.as_slice.ensures.value (chosen_few c.args.options.now.heap c.in_ok-places.ensures.does) (g.H.Hall.state c.args.hall.now).clock
+    c.as_slice.ensures.value (chosen_few c.reserve_element.new.self.party.me c.reserve_element.new.self c.heaps_to_try.new.self c.args.options.now (place_list c.in_ok-places.places)
+    (c.heaps_to_try.new.hall ≡ c.args.hall.now) (g.H.Hall.state c.args.hall.now) (g.H.Hall.state c.heaps_to_try.new.hall) c.args.options.now.heap c.in_ok-places.ensures.does) (g.H.Hall.state c.args.hall.now).clock
     (g.H.Hall.state c.heaps_to_try.new.hall).clock (g.H.Hall.state c.serve_request.new.hall).clock c.heaps_to_try.ensures.clock
     c.serve_request.ensures.clock
 
@@ -226,7 +229,8 @@ pub returns-in_err-note_answer-clause-clock : goal.returns-in_err-note_answer-cl
 returns-in_err-note_answer-clause-clock g c =
     serves_within g.H.Hall.pending (λ hall. IsBusy (g.H.Hall.state hall)) c.args.self.now c.reserve_element.new.self c.heaps_to_try.new.self
     (place_list c.in_ok-places.places) c.as_slice.result.now c.reserve_element.ensures c.heaps_to_try.ensures.ready.again.same.deadline
-    c.as_slice.ensures.value (chosen_few c.args.options.now.heap c.in_ok-places.ensures.does) (g.H.Hall.state c.args.hall.now).clock
+    c.as_slice.ensures.value (chosen_few c.reserve_element.new.self.party.me c.reserve_element.new.self c.heaps_to_try.new.self c.args.options.now (place_list c.in_ok-places.places)
+    (c.heaps_to_try.new.hall ≡ c.args.hall.now) (g.H.Hall.state c.args.hall.now) (g.H.Hall.state c.heaps_to_try.new.hall) c.args.options.now.heap c.in_ok-places.ensures.does) (g.H.Hall.state c.args.hall.now).clock
     (g.H.Hall.state c.heaps_to_try.new.hall).clock (g.H.Hall.state c.serve_request.new.hall).clock c.heaps_to_try.ensures.clock
     c.serve_request.ensures.clock
 
@@ -234,7 +238,8 @@ pub returns-clause-clock : goal.returns-clause-clock
 returns-clause-clock g c =
     serves_within g.H.Hall.pending (λ hall. IsBusy (g.H.Hall.state hall)) c.args.self.now c.reserve_element.new.self c.heaps_to_try.new.self
     (place_list c.in_ok-places.places) c.as_slice.result.now c.reserve_element.ensures c.heaps_to_try.ensures.ready.again.same.deadline
-    c.as_slice.ensures.value (chosen_few c.args.options.now.heap c.in_ok-places.ensures.does) (g.H.Hall.state c.args.hall.now).clock
+    c.as_slice.ensures.value (chosen_few c.reserve_element.new.self.party.me c.reserve_element.new.self c.heaps_to_try.new.self c.args.options.now (place_list c.in_ok-places.places)
+    (c.heaps_to_try.new.hall ≡ c.args.hall.now) (g.H.Hall.state c.args.hall.now) (g.H.Hall.state c.heaps_to_try.new.hall) c.args.options.now.heap c.in_ok-places.ensures.does) (g.H.Hall.state c.args.hall.now).clock
     (g.H.Hall.state c.heaps_to_try.new.hall).clock (g.H.Hall.state c.serve_request.new.hall).clock c.heaps_to_try.ensures.clock
     c.serve_request.ensures.clock
 
@@ -267,7 +272,8 @@ returns-in_err-places-clause-halts g c =
     (stops_so c.args.self.now c.reserve_element.new.self c.heaps_to_try.new.self (g.H.Hall.state c.args.hall.now)
     (g.H.Hall.state c.heaps_to_try.new.hall) c.args.line.now c.args.options.now c.args.request.now c.requires.asks c.requires.attached
     c.reserve_element.ensures [] once_none
-    (stopped_choosing c.args.line.now c.args.options.now c.args.request.now c.args.options.now.heap c.in_err-places.ensures.halts))
+    (stopped_choosing c.reserve_element.new.self.party.me c.reserve_element.new.self c.heaps_to_try.new.self (g.H.Hall.state c.args.hall.now)
+    (g.H.Hall.state c.heaps_to_try.new.hall) c.args.line.now c.args.options.now c.args.request.now c.args.options.now.heap c.in_err-places.ensures.halts))
 
 -- the request was not served
 pub returns-in_err-answer-clause-halts : goal.returns-in_err-answer-clause-halts
@@ -283,7 +289,8 @@ returns-in_err-answer-clause-halts g c =
     let chosen = c.heaps_to_try.ensures.ready in
     on_err_any _ _
     (stops_so c.args.self.now start after (g.H.Hall.state c.args.hall.now) third line options request c.requires.asks c.requires.attached
-    c.reserve_element.ensures (map (λ (place : SearchedHeap). place.index) places) (chosen_once options.heap c.in_ok-places.ensures.does)
+    c.reserve_element.ensures (map (λ (place : SearchedHeap). place.index) places) (chosen_once c.reserve_element.new.self.party.me c.reserve_element.new.self c.heaps_to_try.new.self c.args.options.now (place_list c.in_ok-places.places)
+    (c.heaps_to_try.new.hall ≡ c.args.hall.now) (g.H.Hall.state c.args.hall.now) (g.H.Hall.state c.heaps_to_try.new.hall) c.args.options.now.heap c.in_ok-places.ensures.does)
     (served_halts (λ hall. g.H.Hall.state hall) c.args.hall.now c.heaps_to_try.new.hall third start.party.me mid.party.me start mid after line options
     request places chosen.again.same.me ((g.met.H.Hall.goes_on_later _ _ c.heaps_to_try.ensures.goes_on).count) options.heap
     c.in_ok-places.ensures.does
