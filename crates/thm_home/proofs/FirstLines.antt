@@ -10,6 +10,7 @@ use Rattle.std.proofs.lemmas.Option.{same_Some, slice_get_within}
 use Rattle.hp_base.specs.declared.limits.TheConstants.{MAX_DEADLINE}
 use Rattle.hp_board.specs.Views.{values_of}
 use Rattle.hp_chair.specs.DoneBy.{entries_by}
+use Rattle.hp_chair.specs.FoundEmptyLaws.{nothing_among, split_at}
 use Rattle.hp_hall.specs.Mail.{MailStep, Notes}
 use Rattle.hp_hall.specs.declared.note.Note.{Note}
 use Rattle.hp_hall.specs.declared.note.Note.TheVariants.{LoadedDone, Stored}
@@ -41,7 +42,6 @@ use Rattle.thm_run.specs.OwnLines.{AddsByLines, WentByLines, added_in, heap_hold
 use Rattle.thm_run.specs.Seats.{Seat}
 use Rattle.thm_together.proofs.OnTheWay.{line_on_its_way}
 use Rattle.thm_together.specs.OnItsWay.{IsOnItsWay}
-use Rattle.thm_home.proofs.ActsSplit.{nothing_among, split_at}
 use Rattle.thm_home.proofs.BesideHeap.{added, added_then, held_after, holds_then}
 use Rattle.thm_home.proofs.NamesSeen.{HasSeen, way_names}
 use Rattle.thm_home.proofs.TakenByLines.{AreTakenBy, taken_both, taken_line, taken_none, taken_on}

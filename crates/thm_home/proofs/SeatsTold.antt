@@ -98,7 +98,7 @@ module _ (opening : Opening) (who : ℕ) (mine : Mine) (steps : List MailStep) (
   heap_made before rest is heap = ap (values_of heap) (first_made before rest is) ∙ sym (adds [] before rest is heap).are
 
   -- so a mark has what was made by then, and what was seen of the names
-  marked_so : (courses : List Course)
+  pub marked_so : (courses : List Course)
       → ((before after : List MailStep) (lines : ℕ) → steps ≡ before ++ Notes (Stored lines) ∷ after → HasDoneFirst who courses lines before)
       → (mark : LinesDone) → Contains mine.done mark → HasTold who courses mine mark
   marked_so courses gone mark has =
@@ -143,7 +143,7 @@ module _ (opening : Opening) (who : ℕ) (mine : Mine) (steps : List MailStep) (
       ∙ drop_at (moves_in before) (moves_in after) (length (moves_in before)) refl
 
   -- and what it looked up stands in its view
-  looked_so : (place other lines found : ℕ) (courses : List Course) (before after : List MailStep) → lines ≤ found
+  pub looked_so : (place other lines found : ℕ) (courses : List Course) (before after : List MailStep) → lines ≤ found
       → steps ≡ before ++ Notes (LoadedDone other found) ∷ after
       → ((heap : ℕ) → added who heap None before ≡ entries_for who heap 1 (calls_in (trace_of (take place courses))))
       → AreTakenBy (trace_of (drop place courses)) after → HasLooked who place other lines courses mine

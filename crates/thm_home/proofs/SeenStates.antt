@@ -222,6 +222,7 @@ pub record IsSeenAt (who index : ℕ) (first : List Done) (history : List Entry)
 
 seen_further : (who index : ℕ) (first : List Done) (history : List Entry) (steps more : List MailStep) → IsSeenAt who index first history steps
     → IsSeenAt who index first history (steps ++ more)
+unfolding taken_further
 seen_further who index first history steps more at = record {
   taken = taken_further index history steps more at.taken;
   free = at.free;

@@ -173,7 +173,7 @@ module _ (workload : Workload) (answers : List Answer) (heaps : List HeapView) (
     early_on : HoldOnward no_changes (held_in other told.early) (given_last no_changes told.early)
     early_on = first_on other (all.courses other) told.early told.late (shared_of all.names) told.are (its_onward other)
 
-    front : List Course
+    abbrev front : List Course
     front = take lines told.early
 
     split : told.early ≡ front ++ drop lines told.early
