@@ -1,5 +1,5 @@
 -- What a run leaves of what its lines registered, and what they were answered of statistics: the rules "Ending" and "Together" of docs/RUNS.md.
-use Rattle.std.specs.Prelude.{◌≡◌, ℕ, List, [], ◌∷◌, ◌++◌, filter_map, length, map, Some, slice_get}
+use Rattle.std.specs.Prelude.{◌≡◌, ℕ, List, [], ◌∷◌, ◌++◌, filter_map, length, map, Some, slice_get, ⊤}
 use Rattle.std.specs.List.{All}
 use Rattle.hp_base.specs.Telling.{Listener}
 use Rattle.hp_base.specs.declared.limits.TheConstants.{MAX_HEAPS}
@@ -23,7 +23,6 @@ use Rattle.hp_proc.specs.NamesLog.{change_made}
 use Rattle.hp_proc.specs.NamesOfLines.{names_read}
 use Rattle.hp_proc.specs.OneThread.{AreHandedInOrder, IsLeftBy, IsMoment, WasAllowed, WasDenied}
 use Rattle.hp_proc.specs.RunEnds.{EndsWithNames}
-use Rattle.hp_proc.specs.SharedNames.{SharedNames}
 use Rattle.hp_proc.specs.WatchedBytes.{AreWatchersOf, IsRegisteredWithGrants}
 use Rattle.thm_run.specs.EndLaws.{GoesBy, IsAtEnd, IsGiven}
 use Rattle.thm_run.specs.SoFar.{SoFar}
@@ -61,15 +60,16 @@ pub record AreJudged (workload : Workload) (courses : List Course) (segs : SegsV
   pub denied : (so_far : List Course) (who : ℕ) (done : Done) → IsMoment courses so_far who done
       → WasDenied workload segs so_far who done
 
--- a trace reads names before it does anything else, or has nothing to do with them
-pub data ReadsNamesFirst (trace : List Done) : Type 0 where
-  nameless : names_read trace ≡ [] → filter_map change_made trace ≡ [] → ReadsNamesFirst trace
-  reads_first : (names : SharedNames) (rest : List Done) → trace ≡ NamesRead names ∷ rest → names_read rest ≡ [] → ReadsNamesFirst trace
+-- a trace reads names first of all and no more, or neither reads nor changes any
+abbrev pub ReadsFirst : List Done → Type 0
+ReadsFirst [] = ⊤
+ReadsFirst (NamesRead names ∷ rest) = names_read rest ≡ []
+ReadsFirst (done ∷ rest) = (names_read (done ∷ rest) ≡ []) × (filter_map change_made (done ∷ rest) ≡ [])
 
 -- and what a line was handed of names, of an external heap and of statistics is what the lines before it leave; it was handed the names first;
 -- and they agree with a heap's state that it was handed next
 pub record AreOfLinesBefore (workload : Workload) (courses : List Course) : Type 0 where
-  pub reads : All (λ course. ReadsNamesFirst course.trace) courses
+  pub reads : All (λ course. ReadsFirst course.trace) courses
   pub handed : (so_far : List Course) (who : ℕ) (done : Done) → IsMoment courses so_far who done → IsLeftBy workload so_far done
   pub together : All (AreHandedTogether workload.pools.items) courses
 

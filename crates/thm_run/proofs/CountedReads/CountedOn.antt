@@ -22,7 +22,7 @@ use Rattle.hp_proc.specs.Courses.{OwnCall, calls_in}
 use Rattle.hp_proc.specs.Doing.{Counted, Done}
 use Rattle.hp_proc.specs.Doing.Done.{HeapSeen, NamesRead, StatsRead}
 use Rattle.hp_proc.specs.Ends.{history_by, none_made}
-use Rattle.hp_proc.specs.Handing.{counted_in, shared_of}
+use Rattle.hp_proc.specs.Handing.{counted_in}
 use Rattle.hp_proc.specs.Heaps.{sockets_of}
 use Rattle.hp_proc.specs.Histories.{entries_for}
 use Rattle.hp_proc.specs.LinesDone.{Course}
@@ -49,11 +49,12 @@ use Rattle.thm_run.proofs.HeapGivers.{GiveNoHeap}
 use Rattle.thm_run.proofs.JudgedGrowths.JudgedOn.{IsLastOrEarlier, last_or_earlier}
 use Rattle.thm_run.proofs.LineSteps.LineComes.{course_of, later, line_gives, names_left, trace}
 use Rattle.thm_run.proofs.NamesAlong.{names_more}
+use Rattle.thm_run.proofs.NamesEnd.LinesHeld.{unread_first}
 use Rattle.thm_run.proofs.PathSteps.WaysOn.{steps_done}
 use Rattle.thm_run.proofs.RunFacts.SoFarFacts.{slots_so_far}
-use Rattle.thm_run.proofs.StatsFronts.{at}
+use Rattle.thm_run.proofs.PickedFronts.{at}
 use Rattle.thm_run.specs.EndLaws.{GoesBy, IsGiven, tells_one_more}
-use Rattle.thm_run.specs.Handing.{AreOfLinesBefore, CountedGoesOnByLine, ReadsNamesFirst}
+use Rattle.thm_run.specs.Handing.{AreOfLinesBefore, CountedGoesOnByLine, ReadsFirst}
 use Rattle.thm_run.specs.SoFar.{SoFar}
 
 -- nothing was allocated in a heap that opens
@@ -271,13 +272,13 @@ module _ (workload : Workload) (courses : List Course) (parties behind : List Pa
           })
 
   -- it is handed the names first
-  line_reads_first : {trace : List Done} {steps : List MailStep} → NamesOfLine trace steps → ReadsNamesFirst trace
-  line_reads_first (NamesOfLine.none nothing unread unchanged) = ReadsNamesFirst.nameless unread unchanged
-  line_reads_first (NamesOfLine.once taken given rest two is unread changed) = ReadsNamesFirst.reads_first (shared_of taken) rest is unread
+  line_reads_first : (trace : List Done) {steps : List MailStep} → NamesOfLine trace steps → ReadsFirst trace
+  line_reads_first trace (NamesOfLine.none nothing unread unchanged) = unread_first trace unread unchanged
+  line_reads_first trace (NamesOfLine.once taken given rest two is unread changed) = subst ReadsFirst (sym is) unread
 
   pub counted_all : AreOfLinesBefore workload courses → AreOfLinesBefore workload lines
   counted_all are = record {
-    reads = All-push (λ (course : Course). ReadsNamesFirst course.trace) courses one are.reads (line_reads_first goes.does.does.names);
+    reads = All-push (λ (course : Course). ReadsFirst course.trace) courses one are.reads (line_reads_first its_trace goes.does.does.names);
     handed = handed_all are;
     together = All-push (AreHandedTogether workload.pools.items) courses one are.together
         (line_together workload courses parties behind old new line answer given is_hall so goes);

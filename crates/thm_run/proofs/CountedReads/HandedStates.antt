@@ -23,7 +23,7 @@ use Rattle.thm_run.proofs.InTurnByHolds.HeldCalls.{none_for}
 use Rattle.thm_run.proofs.LineSteps.LineComes.{course_of, slot_along, trace}
 use Rattle.thm_run.proofs.RunFacts.SoFarFacts.{IsAt, at_place}
 use Rattle.thm_run.proofs.SlotAlong.{IsNoSegs, along_front}
-use Rattle.thm_run.proofs.StatsFronts.{at}
+use Rattle.thm_run.proofs.PickedFronts.{at}
 use Rattle.thm_run.specs.EndLaws.{GoesBy, IsGiven, tells_one_more}
 use Rattle.thm_run.specs.SoFar.{SoFar}
 

@@ -1,5 +1,5 @@
 -- Names and the state of a heap that a line is handed one after the other agree: the hall's do when the line begins.
-use Rattle.std.proofs.Common.{◌≡◌, ◌∙◌, ◌==◌, ℕ, ◌<◌, List, [], ◌∷◌, ◌++◌, filter, map, Option, Some, ap, refl, sym, subst, arith}
+use Rattle.std.proofs.Common.{◌≡◌, ◌∙◌, ◌==◌, ℕ, ◌<◌, List, [], ◌∷◌, ◌++◌, filter, map, Option, Some, None, ap, refl, sym, subst, arith}
 use Rattle.std.specs.List.{slice_get}
 use Rattle.std.specs.List.Sorted.{IsPermutation}
 use Rattle.std.specs.Prelude.{Contains, unwrap_or}
