@@ -20,12 +20,11 @@ use Rattle.hp_solo.specs.Solo.{AreLater, AreTied, IsLaterAt, IsLaterParty, IsPar
 use Rattle.hp_solo.specs.SoloCourse.{same_then, server_stays}
 
 -- who is tied stays so along the course of the hall where its own part stays, its marks, and whether it is in the roster
-pub tied_on : (old new : HallView) (who : ℕ) (party : Party) → IsCourse old new → own_at new who ≡ own_at old who
-    → joined_in new who ≡ joined_in old who → ((heap : ℕ) → part_in new who heap ≡ part_in old who heap) → IsTiedAt old who party
+pub tied_marked : (old new : HallView) (who : ℕ) (party : Party) → IsCourse old new → own_at new who ≡ own_at old who
+    → joined_in new who ≡ joined_in old who → ((heap : ℕ) → marked_at new who heap ≡ marked_at old who heap) → IsTiedAt old who party
     → IsTiedAt new who party
-tied_on old new who party course own joined part at =
+tied_marked old new who party course own joined marks at =
     let seen = course_seen old new course in
-    let marks : (heap : ℕ) → marked_at new who heap ≡ marked_at old who heap = λ heap. ap (λ (p : HeapPart). p.marked) (part heap) in
     record {
       number = at.number;
       tied = record {
@@ -35,6 +34,13 @@ tied_on old new who party course own joined part at =
         left = λ out heap. marks heap ∙ at.tied.left out heap;
       };
     }
+
+-- as it does where its parts in heaps stay
+pub tied_on : (old new : HallView) (who : ℕ) (party : Party) → IsCourse old new → own_at new who ≡ own_at old who
+    → joined_in new who ≡ joined_in old who → ((heap : ℕ) → part_in new who heap ≡ part_in old who heap) → IsTiedAt old who party
+    → IsTiedAt new who party
+tied_on old new who party course own joined part at =
+    tied_marked old new who party course own joined (λ heap. ap (λ (p : HeapPart). p.marked) (part heap)) at
 
 -- what is there was not taken
 pub free_home : (slot : Option SlotView) → IsHome slot → taken_from slot ≡ None
@@ -142,23 +148,21 @@ served_apart old new number (Some party) None numbered served = absurd served
 served_apart old new number (Some party) (Some after) numbered served =
     serving_narrow (λ who. who ≢ party.me) (λ who. who ≢ number) old new (λ who apart same. apart (same ∙ numbered party refl)) served.serving
 
--- it is tied in its place
-served_place : (old new : HallView) (number : ℕ) (party after : Party) → party.me ≡ number → IsPartyServed old new party after
-    → IsTiedAt new number after
-served_place old new number party after me served = record {
+tied_here : (old new : HallView) (number : ℕ) (party now : Party) → party.me ≡ number → IsPartyServed old new party now → IsTiedAt new number now
+tied_here old new number party now me served = record {
   number = served.same.me ∙ me;
-  tied = subst (λ (who : ℕ). IsTiedFor new who after) me served.tied;
+  tied = subst (λ (who : ℕ). IsTiedFor new who now) me served.tied;
 }
 
-served_now : (old new : HallView) (number : ℕ) (party : Option Party) (now : Party)
-    → ((there : Party) → party ≡ Some there → there.me ≡ number) → IsServedAs old new party (Some now) → IsTiedAt new number now
-served_now old new number None now numbered served = absurd served
-served_now old new number (Some party) now numbered served = served_place old new number party now (numbered party refl) served
+tied_now : (old new : HallView) (number : ℕ) (now : Party) (party : Option Party) → ((there : Party) → party ≡ Some there → there.me ≡ number)
+    → IsServedAs old new party (Some now) → IsTiedAt new number now
+tied_now old new number now None numbered served = absurd served
+tied_now old new number now (Some party) numbered served = tied_here old new number party now (numbered party refl) served
 
 served_tied : (old new : HallView) (number : ℕ) (party after : Option Party) (now : Party)
     → ((there : Party) → party ≡ Some there → there.me ≡ number) → IsServedAs old new party after → after ≡ Some now → IsTiedAt new number now
 served_tied old new number party after now numbered served is =
-    served_now old new number party now numbered (subst (λ (after : Option Party). IsServedAs old new party after) is served)
+    tied_now old new number now party numbered (subst (λ (o : Option Party). IsServedAs old new party o) is served)
 
 pub served_later : (old new : HallView) (party after : Option Party) → IsServedAs old new party after → IsLaterParty party after
 served_later old new None None served = tt
