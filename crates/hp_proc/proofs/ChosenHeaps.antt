@@ -1,7 +1,7 @@
 -- The heaps that an allocation tries, by the heaps of the sockets.
-use Rattle.std.proofs.Common.{◌≡◌, ℕ, Bool, List, ◌++◌, map, filter, find, not, ◌&&◌, Option, Some, None, is_some, ap, ◌∙◌, sym}
+use Rattle.std.proofs.Common.{◌≡◌, ℕ, Bool, List, ◌++◌, map, filter, find, not, ◌&&◌, Option, Some, None, is_some, refl, ap, ◌∙◌, sym}
 use Rattle.std.specs.List.{All}
-use Rattle.std.specs.Option.{option_to_list}
+use Rattle.std.specs.Option.{option_map, option_to_list}
 use Rattle.std.proofs.lemmas.List.{map-append}
 use Rattle.std.proofs.lemmas.List.Elements.{All-append, All-filter}
 use Rattle.hp_segs.proofs.Finds.{find_mapped}

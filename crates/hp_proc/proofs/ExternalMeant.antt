@@ -8,11 +8,9 @@ use Rattle.hp_base.specs.declared.pool_line.PoolLine.{PoolLine}
 use Rattle.hp_external.specs.Naming.{IsExternalName, IsNameFault, IsSocketName}
 use Rattle.hp_external.specs.declared.fault.NameFault.TheVariants as name
 use Rattle.hp_external.specs.declared.fault.NameFault.{NameFault}
-use Rattle.hp_proc.specs.Awaiting.{before}
 use Rattle.hp_proc.specs.ExternalAnswers.{IsMeant, IsNamedHeap}
 use Rattle.hp_proc.specs.Handing.{shared_of}
 use Rattle.hp_proc.specs.Heaps.{sockets_of}
-use Rattle.hp_proc.specs.NamesAtEnd.{under}
 use Rattle.hp_proc.specs.SharedNames.{directory_in}
 use Rattle.hp_zone.specs.Directory.{DirectoryView, IsDirectory, IsFoundAt, IsNotFound, PlainDirectory, directory_after, opening, socket_heap}
 use Rattle.hp_zone.specs.declared.heap_name.HeapName.{HeapName}

@@ -1,5 +1,6 @@
 pub mod BesideNames
 pub mod Boxed
+pub mod HandAgain
 pub mod HandAllocates
 pub mod HandAsked
 pub mod HandAttaches
@@ -7,15 +8,17 @@ pub mod HandCalls
 pub mod HandCut
 pub mod HandDone
 pub mod HandExternal
+pub mod HandFreed
 pub mod HandGiven
 pub mod HandGrown
 pub mod HandKept
 pub mod HandLeaves
 pub mod HandMarks
 pub mod HandMoved
-pub mod HandSearched
 pub mod HandNamed
+pub mod HandSearched
 pub mod HandTied
+pub mod HandTraded
 pub mod HandTried
 pub mod HeldBack
 pub mod HeldOn

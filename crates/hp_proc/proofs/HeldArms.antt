@@ -258,7 +258,7 @@ module _ (old new : ParticipantView) (names : NamesView) (heap next : HeapView) 
       (subst (λ (b : Bool). DoesNamedHeld old.party.me old new names names heap next state state
       (cond b (leaving_unless here addr len (lowest_data (Some old.party.me) chunk heap.plain)) (Doing.Ended answer.NotAttached)) (Doing.Ended answer.Done))
       (sym gone.detaches.marked)
-      (subst (λ (data : Option ℕ). DoesNamedHeld old.party.me old new names names heap next state state (leaving_unless here addr len data)
+      (subst (λ (lowest : Option ℕ). DoesNamedHeld old.party.me old new names names heap next state state (leaving_unless here addr len lowest)
       (Doing.Ended answer.Done)) (sym ((data_agree (Some old.party.me) chunk heap.plain).none gone.detaches.unused))
       (left_does old new heap next note (left_note gone) order gone.detaches.marked names state (leaving_unless here addr len None)
       (Doing.Ended answer.Done) (gives.Done, refl, refl))))
@@ -272,11 +272,11 @@ module _ (old new : ParticipantView) (names : NamesView) (heap next : HeapView) 
   refused_tree detach.NotAttached meant fault =
       ap tree fault.named.there
       ∙ ap (λ (b : Bool). cond b (leaving_unless here addr len (lowest_data (Some old.party.me) fault.chunk heap.plain)) (Doing.Ended answer.NotAttached)) fault.so
-  refused_tree (detach.InUse data) meant fault =
+  refused_tree (detach.InUse place) meant fault =
       ap tree fault.named.there
       ∙ (ap (λ (b : Bool). cond b (leaving_unless here addr len (lowest_data (Some old.party.me) fault.chunk heap.plain)) (Doing.Ended answer.NotAttached))
       fault.so.0
-      ∙ ap (leaving_unless here addr len) ((data_agree (Some old.party.me) fault.chunk heap.plain).lowest data fault.so.1))
+      ∙ ap (leaving_unless here addr len) ((data_agree (Some old.party.me) fault.chunk heap.plain).lowest place fault.so.1))
 
   pub left_arm : (judged : Result Unit DetachFault) → OnOk judged (DetachesNoted text note old new names.heaps.plain heap next)
       → IfErr judged (IsDetachFault old.party.me names.heaps.plain text addr len heap.plain)

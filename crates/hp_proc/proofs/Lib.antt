@@ -1,8 +1,12 @@
+mod AddedHere
 pub mod AddressLies
 mod AgreedLater
 pub mod AllocFacts
+pub mod AllocLines
 pub mod AttachedLines
+pub mod AwaitedLines
 pub mod ChosenHeaps
+mod ChunkCame
 pub mod ChunkLies
 mod ChunksLeft
 pub mod Continued
@@ -13,6 +17,7 @@ pub mod HallMoments
 pub mod Halted
 pub mod HandFacts
 mod HeldArms
+pub mod InHandUntold
 pub mod InTurn
 pub mod Joining
 pub mod LawLemmas
@@ -29,11 +34,13 @@ pub mod MadeHeaps
 mod MadeHere
 pub mod Makers
 pub mod Mapped
+mod MappedHere
 mod MarksApart
 mod MayAttachHere
 pub mod MeantHeaps
 pub mod NamedPlaces
 pub mod NamesAround
+pub mod NamesBeside
 pub mod NamesFollow
 mod NamesHeld
 mod NamesRead
@@ -41,6 +48,7 @@ pub mod Noted
 pub mod NotedCame
 pub mod NotedLeft
 pub mod OrdinaryElements
+pub mod OwnNotes
 pub mod PagesStay
 mod Permuted
 pub mod Plans
@@ -49,8 +57,10 @@ mod Registered
 mod RegisteredHere
 pub mod RegisteredLines
 pub mod ReleasedMemory
+pub mod RemovedHere
 mod Reservations
 pub mod Rising
+pub mod ServedLines
 pub mod ServesAside
 mod SharedMarks
 pub mod SocketHeapLemmas
@@ -60,7 +70,9 @@ pub mod StepsOrdered
 pub mod TreeDeeds
 pub mod Unarmed
 pub mod WaitsAside
+pub mod WhosePages
 pub mod WorkedLines
 pub mod ZoneAgrees
 pub mod ZoneElements
 pub mod ZoneNames
+mod ZonesWithout

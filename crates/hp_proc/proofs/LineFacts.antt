@@ -244,7 +244,7 @@ line_done count did line given old new facts deed known done empty same is none 
     (awaits_none line.act done.does.does.steps (subst AwaitsNone (sym is) alone)) empty same is none holds
 
 -- what was done with no heap gives the names back first
-apart_idle : {count : ℕ} {did : List MailStep → Type 0} {doing rest : Doing} {old new : Moment} → old.hand ≡ None → new.hand ≡ None
+pub apart_idle : {count : ℕ} {did : List MailStep → Type 0} {doing rest : Doing} {old new : Moment} → old.hand ≡ None → new.hand ≡ None
     → (does : Does [] count did doing rest old new) → GivesNamesFirst does.steps
 apart_idle {count} {did} {doing} {rest} {old} {new} empty ends does =
     names_first does.steps

@@ -39,7 +39,7 @@ abbrev indexes : List SearchedHeap → List ℕ
 indexes places = map (λ (place : SearchedHeap). place.index) places
 
 -- the heaps in which it looks are heaps, none of them twice
-module _ {me : ℕ} {doer mid : ParticipantView} {maker : Maker} {places : List SearchedHeap} {same : Type 0} {first second : HallState} where
+module _ (me : ℕ) (doer mid : ParticipantView) (maker : Maker) (places : List SearchedHeap) (same : Type 0) (first second : HallState) where
   pub found_once : (own : Bool) → FindsBy own me doer mid maker places same first second → AreOnce (indexes places)
   found_once true finds = one_once _ places finds.2
   found_once false all = named_places_once (heaps_in all.names.heaps.plain) places all.found_are (named_once all.names.heaps.plain)

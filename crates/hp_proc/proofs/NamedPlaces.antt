@@ -35,6 +35,9 @@ range_push from (suc count) =
     ∙ (ap (λ (l : List ℕ). from ∷ l) (range_push (from + 1) count)
     ∙ ap (λ (n : ℕ). from ∷ (range_with_len (from + 1) count ++ n ∷ [])) last)
 
+range_push_zero : (n : ℕ) → range_with_len 0 (n + 1) ≡ range_with_len 0 n ++ n ∷ []
+range_push_zero n = range_push 0 n ∙ ap (λ (m : ℕ). range_with_len 0 n ++ m ∷ []) (let same : 0 + n ≡ n = omega arith in same)
+
 made_one : {X Y : Type 0} (f : X → Option Y) (x : X) → filter_map f (x ∷ []) ≡ option_to_list (f x)
 made_one {X} {Y} f x = by_one (f x) refl
   where
@@ -50,7 +53,7 @@ pub places_more : (plain : PlainDirectory) (n : ℕ) (heap : Option HeapName) �
     → places_below plain (n + 1) ≡ places_below plain n ++ map place_named (option_to_list (named_at n heap))
 places_more plain n heap is =
     let f : ℕ → Option NamedHeap = λ (index : ℕ). named_at index (heap_at plain index) in
-    ap (λ (range : List ℕ). map place_named (filter_map f range)) (range_push 0 n)
+    ap (λ (range : List ℕ). map place_named (filter_map f range)) (range_push_zero n)
     ∙ (ap (map place_named) (filter_map-append f (range_with_len 0 n) (n ∷ []) ∙ ap (λ (last : List NamedHeap). filter_map f (range_with_len 0 n) ++ last) (made_one f n))
     ∙ (map-append place_named (filter_map f (range_with_len 0 n)) (option_to_list (f n))
     ∙ ap (λ (heap : Option HeapName). places_below plain n ++ map place_named (option_to_list (named_at n heap))) is))

@@ -199,7 +199,17 @@ agrees_none none keeps = record {
   allocated = λ addr is. absurd (none addr is);
 }
 
-no_address : (given : Option Answer) → given ≡ None → (addr : ℕ) → given ≡ Some (Address addr) → ⊥
+-- it was answered after others had been passed
+pub agrees_then : {tag : Tag} {given : Option Answer} {heap : ℕ} {old mid new : ℕ → HeapPart}
+    → ((names : NamesView) → AgreeWith old names → AgreeWith mid names) → AgreeOnceAnswered tag given heap mid new
+    → AgreeOnceAnswered tag given heap old new
+agrees_then before there = record {
+  still = λ names found agree. there.still names found (before names agree);
+  with_more = λ names more zone zoned is at have agree. there.with_more names more zone zoned is at have (before names agree);
+  allocated = there.allocated;
+}
+
+pub no_address : (given : Option Answer) → given ≡ None → (addr : ℕ) → given ≡ Some (Address addr) → ⊥
 no_address None none addr is = none-some (Address addr) is
 no_address (Some given) none addr is = cc
 

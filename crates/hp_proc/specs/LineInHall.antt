@@ -13,7 +13,8 @@ use Rattle.hp_hall.specs.Naming.{marked_by}
 use Rattle.hp_hall.specs.Own.{rows_known}
 use Rattle.hp_hall.specs.Telling.{has_names}
 use Rattle.hp_hall.specs.Values.{HasNames, IsSoundKept}
-use Rattle.hp_hall.specs.declared.kept.Kept.TheVariants.{Names}
+use Rattle.hp_hall.specs.declared.kept.Kept.{Kept}
+use Rattle.hp_hall.specs.declared.kept.Kept.TheVariants.{Heap, Names}
 use Rattle.hp_hall.specs.declared.slot.TheConstants.{NAMES_SLOT}
 use Rattle.hp_heap.specs.History.{HeapView}
 use Rattle.hp_maps.specs.Chunks.{rows_of_chunk}
@@ -197,11 +198,19 @@ pub record HoldsIn (me : ℕ) (doer : ParticipantView) (heap : HeapView) (state 
   pub named : (state.named me).sockets ≡ sockets_of doer.context.pools
   pub mapped : HasMapped me state
 
--- the heap of that index is the one that it has in hand, with the pen that it has taken with it
+-- a heap in hand is as it was taken, but for its room for calls
+pub record IsAsTaken (taken : ℕ → Option Kept) (heap : HeapView) : Type 0 where
+  pub was : HeapView
+  pub pen : PenView
+  pub out : taken heap.plain.index ≡ Some (Heap was pen)
+  pub same : was.plain ≡ heap.plain
+
+-- the heap of that index is the one that it has in hand, as it was taken, with the pen that it has taken with it
 pub record HoldsHeap (slot me : ℕ) (doer : ParticipantView) (heap : HeapView) (pen : PenView) (state : HallState) : Type 0 where
   pub holds : HoldsIn me doer heap state
   pub index : heap.plain.index ≡ slot
   pub taken_with : IsTakenWith state.taken heap.plain.index pen
+  pub as_taken : IsAsTaken state.taken heap
 
 -- a heap in hand has room for so many calls, and the numbers of its holder's calls have
 pub record HasRoom (calls : ℕ) (heap : HeapView) (doer : ParticipantView) : Type 0 where
@@ -332,6 +341,11 @@ ChoosesBy me old new None choice places same from to = (new ≡ old) × same
 
 abbrev pub ChoosesPlaces : ℕ → ParticipantView → ParticipantView → Options → List SearchedHeap → Type 0 → HallState → HallState → Type 0
 ChoosesPlaces me old new options places same from to = ChoosesBy me old new options.heap options.socket places same from to
+
+-- it stopped over that: it had read the names where a heap is named, and else nothing of its line was done
+abbrev pub StopsChoosing : ℕ → ParticipantView → ParticipantView → Option Part → HallState → HallState → Type 0
+StopsChoosing me old new (Some name) from to = (goes : SharedNames → Doing) → HaltsHere [] me old new from to (reading_names goes)
+StopsChoosing me old new None from to = (doing : Doing) → HaltsHere [] me old new from to doing
 
 -- it knows in which heaps it looks for what a line made: the one in which its own line put it, for which nothing was done, or, for which it read
 -- the names, all that have a name

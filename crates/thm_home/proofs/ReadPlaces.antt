@@ -93,9 +93,9 @@ acts_fresh (Acts.attaches doer after segs caught tried) index so_far was apart =
 acts_fresh (Acts.detaches doer segs told above left bare heard) index so_far was apart = fresh_more index so_far _ (was apart) (tt, (tt, (tt, tt)))
 acts_fresh (Acts.notes_left doer elements) index so_far was apart = fresh_same index so_far (was apart)
 acts_fresh (Acts.reads_names doer names) index so_far was apart = fresh_more index so_far _ (was apart) (tt, (tt, tt))
-acts_fresh (Acts.holds_names held doer after names given trace steps does changes) index so_far was apart =
+acts_fresh (Acts.holds_names held doer after names left trace steps does changes) index so_far was apart =
     let takes : List MailStep = Takes NAMES_SLOT (Names names) ∷ [] in
-    let gives : List MailStep = Gives NAMES_SLOT (Names given) ∷ [] in
+    let gives : List MailStep = Gives NAMES_SLOT (Names left) ∷ [] in
     subst (IsFresh index) (append_assoc (so_far ++ takes) steps gives ∙ append_assoc so_far takes (steps ++ gives))
     (fresh_more index ((so_far ++ takes) ++ steps) gives
     (acts_fresh does index (so_far ++ takes) (λ differ. fresh_more index so_far takes (was differ) (tt, tt)) apart) (tt, tt))

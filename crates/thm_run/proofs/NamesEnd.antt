@@ -1,2 +1,4 @@
 pub mod AgreedAtEnd
+pub mod NamesHome
 pub mod NamesLeft
+pub mod Reserved

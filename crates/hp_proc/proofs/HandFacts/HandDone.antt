@@ -44,7 +44,7 @@ module _ (old new : ParticipantView) (heap : HeapView) (parts later : ℕ → He
     (entries : (index : ℕ) → (later index).entries ≡ (parts index).entries) (serves : (index : ℕ) → (later index).serves ≡ (parts index).serves)
     (same : IsSameParty old.party new.party) (asked : AreAsked records heard old.party.me old.party.asked new.party.asked trace)
     (more : List LogRecord) (log_is : records ≡ log ++ more) (outcomes : List AskLog) (asks_are : heard ≡ asks ++ outcomes) where
-  sockets_are : (h : HeapView) (index : ℕ) → (with_hand new.party.me h later index).serves ≡ (with_hand old.party.me heap parts index).serves
+  pub sockets_are : (h : HeapView) (index : ℕ) → (with_hand new.party.me h later index).serves ≡ (with_hand old.party.me heap parts index).serves
   sockets_are h index =
       serves_of new.party.me h later index ∙ (serves index ∙ sym (serves_of old.party.me heap parts index))
     where
@@ -59,7 +59,7 @@ module _ (old new : ParticipantView) (heap : HeapView) (parts later : ℕ → He
   module _ (next : HeapView) (call : HeapCall) (answer : HeapAnswer) (step : IsCall (caller_of old) call answer heap next)
       (calls : calls_in trace ≡ record { heap = heap.plain.index; call = call; answer = answer } ∷ [])
       (counted : new.context ≡ record (after_calls 1 old.context) { standing = new.context.standing }) where
-    made_entries : (at : ℕ) → (with_hand new.party.me next later at).entries
+    pub made_entries : (at : ℕ) → (with_hand new.party.me next later at).entries
         ≡ (with_hand old.party.me heap parts at).entries ++ entries_for old.party.me at (old.context.calls + 1) (calls_in trace)
     made_entries at =
         subst (λ (who : ℕ). (with_hand who next later at).entries
@@ -91,7 +91,7 @@ module _ (old new : ParticipantView) (heap : HeapView) (parts later : ℕ → He
 
   -- by no call
   module _ (none : calls_in trace ≡ []) (counted : new.context ≡ record (after_calls 0 old.context) { standing = new.context.standing }) where
-    looked_entries : (at : ℕ) → (with_hand new.party.me heap later at).entries
+    pub looked_entries : (at : ℕ) → (with_hand new.party.me heap later at).entries
         ≡ (with_hand old.party.me heap parts at).entries ++ entries_for old.party.me at (old.context.calls + 1) (calls_in trace)
     looked_entries at =
         subst (λ (who : ℕ). (with_hand who heap later at).entries

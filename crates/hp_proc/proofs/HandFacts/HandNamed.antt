@@ -1,21 +1,27 @@
 -- Names that agree with all that is known of heaps but the one in hand agree so still, once that heap, they, or the claimed memory have changed.
-use Rattle.std.proofs.Common.{◌++◌, ◌<◌, ◌∙◌, ◌≡◌, ◌≢◌, Bool, List, None, Option, Some, ap, cond, eq-eqb, eqb, false, ne_eqb, refl, sym, true, ℕ}
+use Rattle.std.proofs.Common.{◌&&◌, ◌++◌, ◌+◌, ◌<◌, ◌∙◌, ◌∷◌, ◌≡◌, ◌≢◌, Bool, List, None, Option, Some, [], ap, cond, count_by, eq-eqb, eqb, false, filter, map, ne_eqb, refl, subst, sym, true, ℕ}
 use Rattle.std.proofs.lemmas.Bool.{cond-false, cond-true}
+use Rattle.std.proofs.lemmas.List.Sorted.{sum_by-IsPermutation}
 use Rattle.std.proofs.lemmas.List.{append_assoc}
 use Rattle.std.specs.Option.{option_map}
 use mathlib.Core.Logic.{dite}
 use native.Mathlib.Decide.{ℕ_discrete}
 use Rattle.hp_base.specs.declared.limits.TheConstants.{MAX_HEAPS}
+use Rattle.hp_external.specs.Tie.{AreListed, is_memory}
 use Rattle.hp_hall.proofs.AgreedAlike.{agree_alike}
-use Rattle.hp_hall.specs.AgreedNames.{AreAgreedNames}
+use Rattle.hp_hall.specs.AgreedNames.{AreAgreedNames, directory_range}
 use Rattle.hp_hall.specs.Holding.{AgreeWith, HeapPart}
-use Rattle.hp_hall.specs.Named.{GivesNames}
-use Rattle.hp_hall.specs.Naming.{Naming, naming_of}
+use Rattle.hp_hall.specs.Named.{GivesNames, IsAllocated}
+use Rattle.hp_hall.specs.Naming.{Naming, naming_of, unmarked}
+use Rattle.hp_heap.proofs.HistoryFacts.Counting.{count_by-cons}
+use Rattle.hp_heap.proofs.Members.{count_map}
 use Rattle.hp_heap.specs.History.{HeapView}
+use Rattle.hp_heap.specs.PlainHeap.{PlainHeap}
 use Rattle.hp_heap.specs.declared.entry.Entry.{Entry}
 use Rattle.hp_proc.proofs.AgreedLater.{renamed, renamed_else, renamed_here}
 use Rattle.hp_proc.specs.NamesInHand.{with_naming}
 use Rattle.hp_segs.specs.declared.external_range.ExternalRange.{ExternalRange}
+use Rattle.hp_zone.specs.declared.heap_name.HeapRange.{HeapRange}
 use Rattle.hp_zone.specs.declared.name_change.NameChange.{NameChange}
 use Rattle.hp_zone.specs.declared.names.Names.{Names as NamesView}
 
@@ -27,6 +33,16 @@ mapped_some : (known : Option Naming) (one other given : Naming) → option_map 
     → option_map (λ (n : Naming). given) known ≡ Some given
 mapped_some None one other given is = absurd (cc)
 mapped_some (Some n) one other given is = refl
+
+-- what passes two tests passes one among what passes the other
+count_both : {X : Type 0} (p q : X → Bool) (xs : List X) → count_by (λ x. p x && q x) xs ≡ count_by q (filter p xs)
+count_both p q [] = refl
+count_both {X} p q (x ∷ xs) =
+    count_by-cons (λ (y : X). p y && q y) x xs ∙ (ap (λ (n : ℕ). cond (p x && q x) 1 0 + n) (count_both p q xs) ∙ by_first (p x))
+  where
+    by_first : (b : Bool) → cond {A = ℕ} (b && q x) 1 0 + count_by q (filter p xs) ≡ count_by q (cond b (x ∷ filter p xs) (filter p xs))
+    by_first true = sym (count_by-cons q x (filter p xs))
+    by_first false = refl
 
 module _ (heap : HeapView) (parts : ℕ → HeapPart) (names : NamesView) (agree : AgreeWith (with_naming heap parts) names)
     (few : heap.plain.index < MAX_HEAPS) where
@@ -105,6 +121,23 @@ module _ (heap : HeapView) (parts : ℕ → HeapPart) (names : NamesView) (agree
       (λ apart. renamed_else at (naming_of next.plain) agree.namings index apart))
       agree.agreed
 
+  -- the directory has exactly the heap's chunks at its index
+  pub listed_here : AreListed names.heaps.plain.ranges heap.plain
+  listed_here addr len page =
+      let tests : HeapRange → Bool = λ (r : HeapRange). (eqb r.addr addr) && ((eqb r.len len) && (eqb r.page page)) in
+      let ranges = filter (λ (r : HeapRange). eqb r.index at) names.heaps.plain.ranges in
+      let named = (agree.agreed.each at few).ranges in
+      let moved : count_by tests (map (directory_range at) (agree.namings at).chunks) ≡ count_by tests ranges =
+      sum_by-IsPermutation (λ (r : HeapRange). cond (tests r) 1 0) ranges (map (directory_range at) (agree.namings at).chunks) named in
+      count_both (λ (r : HeapRange). eqb r.index at) tests names.heaps.plain.ranges
+      ∙ (sym moved
+      ∙ (count_map (directory_range at) tests (agree.namings at).chunks
+      ∙ (ap (λ (n : Naming). count_by (is_memory addr len page) n.chunks) (sym known_here) ∙ its_chunks heap.plain)))
+    where
+      its_chunks : (h : PlainHeap) → count_by (is_memory addr len page) (naming_of h).chunks ≡ count_by (is_memory addr len page) h.chunks
+      unfolding naming_of
+      its_chunks h = count_map unmarked (is_memory addr len page) h.chunks
+
 -- names of which the directory has changed go on from the taken ones as before
 pub names_go : (entries : ℕ → List Entry) (was names given : NamesView) (more : List NameChange) → GivesNames entries was names
     → given.zones ≡ names.zones → given.heaps.sockets ≡ names.heaps.sockets → given.heaps.log ≡ names.heaps.log ++ more → GivesNames entries was given
@@ -117,4 +150,12 @@ names_go entries was names given more gives zones sockets heaps = record {
     heaps = heaps ∙ (ap (λ (l : List NameChange). l ++ more) gives.goes_on.heaps ∙ append_assoc was.heaps.log gives.goes_on.more_heaps more);
   };
   allocated = gives.allocated;
+}
+
+-- and as the entries say that are home
+pub names_entries : (entries later : ℕ → List Entry) (was names : NamesView) → ((index : ℕ) → later index ≡ entries index)
+    → GivesNames entries was names → GivesNames later was names
+names_entries entries later was names same gives = record {
+  goes_on = gives.goes_on;
+  allocated = λ zone has. subst (IsAllocated zone.addr) (sym (same zone.heap)) (gives.allocated zone has);
 }

@@ -11,15 +11,13 @@ ghost use Rattle.hp_serve.specs.Clocks.{RisesWithin, longest_allocation, longest
 ghost use Rattle.hp_proc.specs.Contexts.{IsNextLine, IsPlaceOf};
 ghost use Rattle.hp_proc.specs.Doing.{Doing};
 ghost use Rattle.hp_proc.specs.Heaps.{NamedHeap};
-ghost use Rattle.hp_proc.specs.Lines.{reading_names};
-ghost use Rattle.hp_proc.specs.SharedNames.{SharedNames};
 ghost use Rattle.hp_proc.specs.ParticipantView.{after_answer};
 ghost use Rattle.hp_proc.specs.PlaceLists.{place_list, place_named};
 ghost use Rattle.hp_proc.specs.Progress.{AreOnce, Brings, IsAllocation, Tries};
 ghost use Rattle.hp_proc.specs.declared.searched_heap.SearchedHeap.{SearchedHeap};
 ghost use Rattle.hp_hall.specs.HallState.{IsBusy};
 ghost use Rattle.hp_hall.specs.declared.slot.TheConstants.{NAMES_SLOT};
-ghost use Rattle.hp_proc.specs.LineInHall.{ChoosesPlaces, DoesLineHere, HaltsHeld, HaltsHere, HaltsLineHere, HasCalledBeside, HasNamesOut, HasRoom, HoldsIn, IsBesideTheNames, IsKnownMapped, IsMapped, IsReadyAgain, IsReadyBut, IsReadyIn, KeepsHeld, MayGiveBeside, did_in, moment, moment_with};
+ghost use Rattle.hp_proc.specs.LineInHall.{ChoosesPlaces, DoesLineHere, HaltsHeld, HaltsHere, HaltsLineHere, HasCalled, HasCalledBeside, HasNamesOut, HasRoom, HoldsIn, IsBesideTheNames, IsKnownMapped, IsMapped, IsReadyAgain, IsReadyBut, IsReadyIn, KeepsHeld, MayGiveBeside, StopsChoosing, did_in, moment, moment_with};
 ghost use Rattle.hp_proc.specs.ZonesInHand.{AgreeOnceAnswered, AgreeOnceAnsweredIn, answer_of, last_answer_of, last_heap_of};
 
 use super::Participant;
@@ -213,9 +211,9 @@ impl<'p, M: Mapper, F: Decide + Copy + Drop> Participant<'p, M, F> {
         requires ready { IsReadyIn self.old.party.me self.old (H.state hall.old) }
         ensures does { IfOk result (λ places. ChoosesPlaces self.old.party.me self.old self.new options.now (place_list places)
             (hall.new ≡ hall.old) (H.state hall.old) (H.state hall.new)) }
-        ensures halts { OnErr result ((goes : SharedNames → Doing) → HaltsHere [] self.old.party.me self.old self.new (H.state hall.old)
-            (H.state hall.new) (reading_names goes)) }
-        ensures ready { IsReadyAgain self.old.party.me self.old self.new (H.state hall.new) }
+        ensures halts { OnErr result (StopsChoosing self.old.party.me self.old self.new options.now.heap (H.state hall.old)
+            (H.state hall.new)) }
+        ensures ready { HasCalled self.old.party.me self.old self.new (H.state hall.new) }
         ensures clock { RisesWithin H.pending (λ hall. IsBusy (H.state hall)) 0 (H.state hall.old).clock (H.state hall.new).clock }
         ensures goes_on { H.goes_on hall.old hall.new }
     {

@@ -6,7 +6,7 @@ ghost use Rattle.hp_hall.specs.HallState.{IsBusy};
 ghost use Rattle.hp_proc.specs.Doing.{Doing};
 ghost use Rattle.hp_proc.specs.ExternalAnswers.{IsChunkAnswer, IsCreateAnswer, IsExternalAct, IsHeapMeant, IsMeant, IsNameAnswer, IsNamedHeap, chunk_said, create_said, name_said};
 ghost use Rattle.hp_proc.specs.Handing.{shared_of};
-ghost use Rattle.hp_proc.specs.LineInHall.{DoesLineHere, HaltsLineHere, HasRoom, IsReadyAgain, IsReadyIn};
+ghost use Rattle.hp_proc.specs.LineInHall.{DoesLineHere, HaltsLineHere, HasRoom, IsAsTaken, IsReadyAgain, IsReadyIn};
 ghost use Rattle.hp_proc.specs.LineTrees.{doing_held, doing_named};
 ghost use Rattle.hp_proc.specs.MarksInHand.{HoldsNamedMarked, KeepsMarked};
 ghost use Rattle.hp_proc.specs.NamesInHand.{DoesNamed, DoesNamedHeld, DoesNamedOnce, HaltsNamed, HaltsNamedHeld, HaltsNamedOnce, IsIndexMeant, IsReadyNamed};
@@ -119,6 +119,8 @@ impl<'p, M: Mapper, F: Decide + Copy + Drop> Participant<'p, M, F> {
         act: &Act<'_>,
     ) -> Result<Answer, AllocError>
         requires external { IsExternalAct act.now }
+        requires attached { self.old.context.standing.attached ≡ true }
+        requires as_taken { IsAsTaken (H.state hall.old).taken heap.old }
         requires holds { HoldsNamedMarked self.old.party.me self.old names.old heap.old (H.state hall.old) }
         requires meant { IsIndexMeant act.now names.old.heaps.plain heap.old.plain.index }
         requires serves { heap.old.plain.serves ≡ None }
@@ -170,6 +172,7 @@ impl<'p, M: Mapper, F: Decide + Copy + Drop> Participant<'p, M, F> {
         index: u32,
     ) -> Result<Answer, AllocError>
         requires external { IsExternalAct act.now }
+        requires attached { self.old.context.standing.attached ≡ true }
         requires few { index < MAX_HEAPS }
         requires meant { IsIndexMeant act.now names.old.heaps.plain index }
         requires ready { IsReadyNamed self.old.party.me self.old names.old (H.state hall.old) }
@@ -195,6 +198,7 @@ impl<'p, M: Mapper, F: Decide + Copy + Drop> Participant<'p, M, F> {
         act: &Act<'_>,
     ) -> Result<Answer, AllocError>
         requires external { IsExternalAct act.now }
+        requires attached { self.old.context.standing.attached ≡ true }
         requires ready { IsReadyNamed self.old.party.me self.old names.old (H.state hall.old) }
         ensures does { IfOk result (λ given. DoesNamedOnce self.old.party.me self.old self.new names.old names.new (H.state hall.old)
             (H.state hall.new) (doing_named self.old.party.me self.old.context.pools act.now (shared_of names.old)) (Doing.Ended given)) }

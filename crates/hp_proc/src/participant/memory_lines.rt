@@ -13,7 +13,7 @@ ghost use Rattle.hp_proc.specs.Doing.{Doing};
 ghost use Rattle.hp_proc.specs.ExternalAnswers.{IsAddSaid, IsMadeSaid, IsNamedHeap, destroy_said, remove_said};
 ghost use Rattle.hp_proc.specs.ExternalLines.{planning, removing};
 ghost use Rattle.hp_proc.specs.HeldLines.{DestroysHeap, MakesHeap};
-ghost use Rattle.hp_proc.specs.LineInHall.{HasRoom};
+ghost use Rattle.hp_proc.specs.LineInHall.{HasRoom, IsAsTaken};
 ghost use Rattle.hp_proc.specs.MarksInHand.{HoldsNamedMarked, KeepsMarked};
 ghost use Rattle.hp_proc.specs.NamesInHand.{DoesNamedHeld, HaltsNamedHeld, StandsStill};
 ghost use Rattle.hp_proc.specs.ParticipantView.{after_call};
@@ -201,6 +201,7 @@ impl<'p, M: Mapper, F: Decide + Copy + Drop> Participant<'p, M, F> {
         addr: u64,
         len: u64,
     ) -> Answer
+        requires as_taken { IsAsTaken (H.state hall.old).taken heap.old }
         requires holds { HoldsNamedMarked self.old.party.me self.old names.old heap.old (H.state hall.old) }
         requires named { IsThatHeap names.old.heaps.plain text.now heap.old.plain }
         requires meant { IsNamedHeap names.old.heaps.plain text.now heap.old.plain.index }

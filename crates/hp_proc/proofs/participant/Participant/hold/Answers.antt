@@ -13,7 +13,7 @@ use Rattle.hp_proc.specs.NamesInHand.{KeepsAgreed, with_naming}
 use Rattle.hp_proc.specs.Progress.{AreSettled, Does, IsInHand, in_hand}
 use Rattle.hp_proc.proofs.Halted.{halts_of, halts_same}
 use Rattle.hp_proc.proofs.HandFacts.BesideNames.{gives_beside, names_same}
-use Rattle.hp_proc.proofs.HandFacts.HandCalls.{does_spared, hand_spared, taken_with}
+use Rattle.hp_proc.proofs.HandFacts.HandCalls.{does_spared, hand_spared, spared_taken, taken_with}
 use Rattle.hp_proc.proofs.HandFacts.Holds.{knew_same, names_put, ready_put, spared_agrees, spared_holds}
 use Rattle.hp_proc.proofs.Joining.{does_then}
 use Rattle.hp_serve.proofs.Carrying.{same_party}
@@ -82,6 +82,7 @@ returns-in-Ok-clause-hand g c =
       index = ap (λ (heap : PlainHeap). heap.index) same.plain ∙ c.in_ok-heap.ensures.hand.index;
       taken_with = taken_with c.in_ok-heap.heap c.reserve.new.self (g.H.Hall.state c.take_heap.new.hall).taken
           (ap (λ (heap : PlainHeap). heap.index) same.plain) c.in_ok-heap.ensures.hand.taken_with;
+      as_taken = spared_taken c.in_ok-heap.heap c.reserve.new.self (g.H.Hall.state c.take_heap.new.hall).taken same c.in_ok-heap.ensures.hand.as_taken;
     }
 
 pub returns-in-Ok-clause-agreed : goal.returns-in-Ok-clause-agreed

@@ -21,13 +21,15 @@ use Rattle.hp_proc.proofs.participant.Participant.read_place.Goals as goal
 pub place_of-found-requires : goal.place_of-found-requires
 place_of-found-requires g c = record { sound = c.in_ok-names.ensures.held.sound.1 }
 
-pub give_names-requires-clause-may : goal.give_names-requires-clause-may
-give_names-requires-clause-may g c =
+pub give_names-requires : goal.give_names-requires
+give_names-requires g c =
     let held = c.in_ok-names.ensures.held in
     let at = g.H.Hall.state c.take_names.new.hall in
     record {
-      serves = subst at.serves (sym held.same.me) held.but.serves;
-      gives = subst (λ (who : ℕ). IsGiveOf (known_to who at) NAMES_SLOT (Names c.in_ok-names.names)) (sym held.same.me) held.gives;
+      may = record {
+        serves = subst at.serves (sym held.same.me) held.but.serves;
+        gives = subst (λ (who : ℕ). IsGiveOf (known_to who at) NAMES_SLOT (Names c.in_ok-names.names)) (sym held.same.me) held.gives;
+      };
     }
 
 pub returns : goal.returns

@@ -23,13 +23,15 @@ use Rattle.hp_proc.proofs.participant.Participant.read_places.Goals as goal
 pub places_in-found-requires : goal.places_in-found-requires
 places_in-found-requires g c = record { sound = c.in_ok-names.ensures.held.sound.1 }
 
-pub give_names-requires-clause-may : goal.give_names-requires-clause-may
-give_names-requires-clause-may g c =
+pub give_names-requires : goal.give_names-requires
+give_names-requires g c =
     let held = c.in_ok-names.ensures.held in
     let at = g.H.Hall.state c.take_names.new.hall in
     record {
-      serves = subst at.serves (sym held.same.me) held.but.serves;
-      gives = subst (λ (who : ℕ). IsGiveOf (known_to who at) NAMES_SLOT (Names c.in_ok-names.names)) (sym held.same.me) held.gives;
+      may = record {
+        serves = subst at.serves (sym held.same.me) held.but.serves;
+        gives = subst (λ (who : ℕ). IsGiveOf (known_to who at) NAMES_SLOT (Names c.in_ok-names.names)) (sym held.same.me) held.gives;
+      };
     }
 
 pub returns : goal.returns
@@ -101,7 +103,7 @@ returns-in_err-places g c =
     (names_read doer mid names old at new held gave is.slots others goes).does in
     record {
       read = search rules;
-      halts = on_err_any c.from_residual.result _ halts;
+      halts = on_err_any c.from_residual-in_err-places.result _ halts;
       ready = record {
         again = ready_read doer mid names old at new held gave is.slots others;
         context = knew_same doer.context mid.context held.context;

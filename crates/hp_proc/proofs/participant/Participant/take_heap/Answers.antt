@@ -149,6 +149,7 @@ returns-in-Ok g c =
         };
         index = shown.index;
         taken_with = record { heap = heap; out = out };
+        as_taken = record { was = heap; pen = pen; out = out; same = refl };
       };
       same = was.stays.same;
       context = was.context;
