@@ -7,7 +7,6 @@ use Rattle.std.proofs.lemmas.Grind.{flat_map-append}
 use Rattle.std.proofs.lemmas.List.{take-append-drop}
 use Rattle.std.proofs.lemmas.List.Elements.{All-contains, Contains-append_right, filter_map-append}
 use Rattle.core.specs.List.{cons_option}
-use Rattle.hp_base.specs.declared.limits.TheConstants.{MAX_HEAPS}
 use Rattle.hp_board.specs.Lines.{made_by_then}
 use Rattle.hp_board.specs.Views.{BeginsWith}
 use Rattle.hp_board.specs.declared.view.Mine.{Mine}
@@ -24,7 +23,7 @@ use Rattle.hp_proc.specs.AwaitedNames.{HoldCallsOf, ReadsOn, names_read}
 use Rattle.hp_proc.specs.Courses.{calls_in}
 use Rattle.hp_proc.specs.Doing.{Done}
 use Rattle.hp_proc.specs.Doing.Done.{HeapSeen, NamesRead}
-use Rattle.hp_proc.specs.Handed.{AreFrontNames, AreStatesHanded, IsFrontOf, names_shown, state_seen}
+use Rattle.hp_proc.specs.Handed.{AreStatesHanded, IsFrontOf, names_shown, state_seen}
 use Rattle.hp_proc.specs.Histories.{entries_for}
 use Rattle.hp_proc.specs.LinesDone.{Course, trace_of}
 use Rattle.hp_proc.specs.SharedNames.{SharedNames, no_changes}
@@ -34,7 +33,7 @@ use Rattle.thm_moved.proofs.CameToBoard.{came, its_seat}
 use Rattle.thm_moved.proofs.ClosedHeaps.{at_a_place}
 use Rattle.thm_moved.proofs.NamesAwaited.{names_since}
 use Rattle.thm_moved.proofs.OwnEntries.{AreAbove, all_above, stands_before}
-use Rattle.thm_moved.specs.AtBoard.{AllCameToTheirSeats, HasLooked, HasTold}
+use Rattle.thm_moved.specs.AtBoard.{AllCameToTheirSeats, HasLooked}
 use Rattle.thm_home.proofs.StatesAtBoard.{state_is, states_at_board}
 
 -- what is said of a line that awaits, by the lines of each participant

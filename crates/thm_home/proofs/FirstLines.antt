@@ -1,21 +1,16 @@
 -- By the steps of its thread a participant told only of lines that it had done, and at each await it looked up that the others' lines were done; and by
 -- then each heap had the calls of its lines so far.
-use Rattle.std.proofs.Common.{◌≡◌, ◌≢◌, ◌⊎◌, ◌∙◌, ℕ, zero, suc, ◌+◌, ◌<◌, ◌≤◌, List, [], ◌∷◌, ◌++◌, append-nil, append_assoc, drop, flat_map, length, length-append, take, Option, Some, None, inl, inr, ⊎_elim, refl, ap, ap₂, sym, subst, arith}
-use Rattle.std.specs.List.{AllByRecursion, slice_get}
-use Rattle.std.specs.Prelude.{⊤}
+use Rattle.std.proofs.Common.{◌≡◌, ◌≢◌, ◌⊎◌, ◌∙◌, ℕ, zero, suc, ◌+◌, ◌<◌, ◌≤◌, List, [], ◌∷◌, ◌++◌, append-nil, append_assoc, drop, flat_map, length, length-append, take, Some, None, ⊎_elim, refl, ap, sym, subst, arith}
+use Rattle.std.specs.List.{slice_get}
 use Rattle.std.proofs.lemmas.Bool.{cases_lt}
 use Rattle.std.proofs.lemmas.Grind.{flat_map-append}
 use Rattle.std.proofs.lemmas.List.{drop-append-le, drop_at, take-append-le, take_at}
 use Rattle.std.proofs.lemmas.Option.{same_Some, slice_get_within}
 use Rattle.hp_base.specs.declared.limits.TheConstants.{MAX_DEADLINE}
-use Rattle.hp_board.specs.Views.{values_of}
-use Rattle.hp_chair.specs.DoneBy.{entries_by}
 use Rattle.hp_chair.specs.FoundEmptyLaws.{nothing_among, split_at}
 use Rattle.hp_hall.specs.Mail.{MailStep, Notes}
-use Rattle.hp_hall.specs.declared.note.Note.{Note}
 use Rattle.hp_hall.specs.declared.note.Note.TheVariants.{LoadedDone, Stored}
 use Rattle.hp_heap.specs.declared.entry.Entry.{Entry}
-use Rattle.hp_proc.proofs.LawLemmas.{entries_go_on}
 use Rattle.hp_proc.specs.Awaiting.{HasAwaited, LooksUpLast}
 use Rattle.hp_proc.specs.Courses.{Standing, after_line, calls_in}
 use Rattle.hp_proc.specs.Doing.{Doing, Done, Goes, Leads}
@@ -34,8 +29,8 @@ use Rattle.hp_segs.proofs.AskFacts.Settled.{get_before}
 use Rattle.hp_segs.proofs.SlotFacts.ListFacts.{get_stays}
 use Rattle.hp_threads.proofs.ServesUntold.{served_untold}
 use Rattle.hp_threads.proofs.WaitsUntold.{acts_untold}
-use Rattle.hp_threads.specs.Adding.{IsUntelling, TellNothing}
-use Rattle.hp_threads.specs.Works.{DoesCourse, Works, tells}
+use Rattle.hp_threads.specs.Adding.{TellNothing}
+use Rattle.hp_threads.specs.Works.{Works, tells}
 use Rattle.thm_run.proofs.JudgedGrowths.Moments.{get_behind}
 use Rattle.thm_run.proofs.LineSteps.LineMore.{trace_more}
 use Rattle.thm_run.specs.OwnLines.{AddsByLines, WentByLines, added_in, heap_holds_from}
@@ -46,7 +41,7 @@ use Rattle.thm_home.proofs.BesideHeap.{added, added_then, held_after, holds_then
 use Rattle.thm_home.proofs.NamesSeen.{HasSeen, way_names}
 use Rattle.thm_home.proofs.TakenByLines.{AreTakenBy, taken_both, taken_line, taken_none, taken_on}
 use Rattle.thm_home.proofs.WaysCame.{way_came}
-use Rattle.thm_home.proofs.WaysOfWorks.{AddsAmong, IsCounting, first_seat, line_adds, works_way}
+use Rattle.thm_home.proofs.WaysOfWorks.{AddsAmong, first_seat, line_adds, works_way}
 
 -- WHAT STANDS AT A PLACE OF TWO LISTS
 

@@ -6,7 +6,6 @@ use Rattle.std.proofs.lemmas.List.Elements.{Contains-append_cases}
 use Rattle.hp_board.specs.Lines.{made_by_then}
 use Rattle.hp_board.specs.Views.{newcomer, none_done, values_of}
 use Rattle.hp_board.specs.declared.opening.Opening.{Opening}
-use Rattle.hp_board.specs.declared.view.Awaited.{Awaited}
 use Rattle.hp_board.specs.declared.view.LinesDone.{LinesDone}
 use Rattle.hp_board.specs.declared.view.Mine.{Mine}
 use Rattle.hp_board.specs.declared.view.Move.{Move}
@@ -21,7 +20,6 @@ use Rattle.hp_hall.specs.declared.kept.Kept.TheVariants.{Heap, Names}
 use Rattle.hp_hall.specs.declared.note.Note.TheVariants.{LoadedDone, Stored}
 use Rattle.hp_hall.specs.declared.slot.TheConstants.{NAMES_SLOT}
 use Rattle.hp_heap.proofs.AllocFacts.ChoiceLaw.{Contains-cases, Contains-none}
-use Rattle.hp_heap.specs.declared.entry.Entry.{Entry}
 use Rattle.hp_zone.specs.declared.name_change.NameChange.{NameChange}
 use Rattle.hp_zone.specs.declared.zone.ZoneChange.{ZoneChange}
 use Rattle.hp_proc.specs.Courses.{calls_in}

@@ -24,7 +24,7 @@ use Rattle.thm_run.proofs.LineSteps.LineMore.{trace_more}
 use Rattle.thm_run.specs.OwnLines.{AddsByLines, IsLineOf, WentByLines}
 use Rattle.thm_run.specs.Seats.{Seat}
 use Rattle.thm_home.proofs.ActsApart.{acts_apart, none_of}
-use Rattle.thm_home.proofs.BesideHeap.{AreBeside, acts_free, added, added_then, beside_both, held_after, held_beside, held_both, none_added, others_beside}
+use Rattle.thm_home.proofs.BesideHeap.{AreBeside, added, added_then, beside_both, held_after, held_beside, held_both, none_added}
 use Rattle.thm_home.proofs.WaysCame.{way_came}
 
 -- IN A LINE'S DOINGS

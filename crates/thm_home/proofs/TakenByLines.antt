@@ -1,8 +1,6 @@
 -- What lines are handed of heaps and of the names they take by their steps.
-use Rattle.std.proofs.Common.{◌≡◌, ◌∙◌, ℕ, List, [], ◌∷◌, ◌++◌, append_assoc, Contains, Some, None, ⊎_elim, ◌⊎◌, inl, inr, refl, ap, sym, subst}
-use Rattle.std.proofs.lemmas.Grind.{flat_map-append}
+use Rattle.std.proofs.Common.{◌≡◌, ◌∙◌, ℕ, List, [], ◌∷◌, ◌++◌, append_assoc, Contains, None, ⊎_elim, ◌⊎◌, inl, inr, ap, sym, subst}
 use Rattle.std.proofs.lemmas.List.Elements.{Contains-append_left, Contains-append_right}
-use Rattle.hp_board.specs.declared.view.Move.{Move}
 use Rattle.hp_board.specs.declared.view.Move.TheVariants.{Took}
 use Rattle.hp_chair.specs.FoundEmptyLaws.{nothing_among, split_at, tail_of}
 use Rattle.hp_chair.specs.Steps.{move_in, moves_in}

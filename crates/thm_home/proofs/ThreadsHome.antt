@@ -1,5 +1,5 @@
 -- What threads leave: each participant came to its seat at the board.
-use Rattle.std.proofs.Common.{◌≡◌, ◌∙◌, ℕ, ◌<◌, ◌≤◌, eqb, eq-eqb, List, [], ◌∷◌, ◌++◌, take, None, refl, ap, sym, subst, arith}
+use Rattle.std.proofs.Common.{◌≡◌, ◌∙◌, ℕ, ◌<◌, ◌≤◌, eqb, eq-eqb, List, [], ◌∷◌, ◌++◌, refl, ap, sym, subst, arith}
 use Rattle.std.specs.List.{All}
 use Rattle.std.specs.Prelude.{Some, slice_get}
 use Rattle.std.proofs.lemmas.Bool.{cond-true}
@@ -46,7 +46,6 @@ use Rattle.thm_together.specs.OnItsWay.{IsOnItsWay}
 use Rattle.thm_moved.proofs.ClosedHeaps.{at_a_place}
 use Rattle.thm_moved.proofs.HeapsAdded.{adds_by_moves}
 use Rattle.thm_moved.specs.AtBoard.{CameToItsSeat, HasLooked}
-use Rattle.thm_home.proofs.BesideHeap.{added}
 use Rattle.thm_home.proofs.FirstLines.{AwaitsAlone, HasDoneFirst, HasLookedAt, awaits_alone, told_made, works_looked}
 use Rattle.thm_home.proofs.NamesSeen.{HasSeen, way_names}
 use Rattle.thm_home.proofs.SeatsTold.{looked_so, marked_so}

@@ -12,8 +12,6 @@ pub mod MovesHeld
 pub mod MovesWithin
 pub mod NamesAtBoard
 pub mod NamesAwaited
-pub mod NamesChain
-pub mod NamesChanged
 pub mod NamesHeld
 pub mod NamesLeftAtBoard
 pub mod NamesOfWays

@@ -1,6 +1,6 @@
 -- The names that a participant was handed after it awaited first lines of another begin with all names that these were shown.
-use Rattle.std.proofs.Common.{◌≡◌, ◌∙◌, ℕ, ◌+◌, ◌<◌, ◌≤◌, List, [], ◌∷◌, ◌++◌, append-nil, append_assoc, Contains, drop, flat_map, length, take, inl, inr, refl, sym, ap, subst, arith}
-use Rattle.std.specs.List.{AllByRecursion, filter_map, fold}
+use Rattle.std.proofs.Common.{◌≡◌, ◌∙◌, ℕ, ◌+◌, ◌<◌, ◌≤◌, List, [], ◌∷◌, ◌++◌, append-nil, Contains, drop, length, take, inl, inr, refl, sym, ap, subst, arith}
+use Rattle.std.specs.List.{AllByRecursion, filter_map}
 use Rattle.std.proofs.lemmas.Grind.{flat_map-append}
 use Rattle.std.proofs.lemmas.List.{take-append-drop, take_at}
 use Rattle.hp_board.specs.Closing.{history_at}
@@ -26,13 +26,13 @@ use Rattle.hp_proc.specs.Handed.{AreFrontNames, names_shown}
 use Rattle.hp_proc.specs.Handing.{shared_of}
 use Rattle.hp_proc.specs.LinesDone.{Course, trace_of}
 use Rattle.hp_proc.specs.NamesLog.{change_made}
-use Rattle.hp_proc.specs.NamesOfLines.{names_after}
 use Rattle.hp_proc.specs.SharedNames.{SharedNames, no_changes}
 use Rattle.thm_moved.proofs.AwaitedAtBoard.{first_are, its, looked_up, mine}
 use Rattle.thm_moved.proofs.CameToBoard.{came}
 use Rattle.thm_moved.proofs.NamesAtBoard.{its_holds, names_came}
-use Rattle.thm_moved.proofs.NamesChain.{AreLater, AreOnward, GivesLater, HoldOnward, front_is, later_after, later_on, lines_onward, onward_whole, own_onward}
-use Rattle.thm_moved.proofs.NamesOfWays.{ReadsFirst, held_for, held_in}
+use Rattle.thm_run.proofs.NamesEnd.NamesChain.{AreLater, AreOnward, GivesLater, HoldOnward, front_is, later_after, later_on, later_same, lines_onward, onward_whole, own_onward}
+use Rattle.thm_run.proofs.NamesEnd.LinesHeld.{held_for, held_in}
+use Rattle.thm_run.specs.Handing.{ReadsFirst}
 use Rattle.thm_moved.specs.AtBoard.{AllCameToTheirSeats, HasLooked, HasTold, given_by, given_last}
 
 -- HOLDS
@@ -56,12 +56,9 @@ less_onward low [] rest high later on = whole_onward low rest high later on
 less_onward low (hold ∷ first) rest high later on = (on.0, less_onward hold.given first rest high later on.1)
 
 -- and to what they gave back last themselves
-same_later : (names : SharedNames) → AreLater names names
-same_later names = record { zones = ([], sym (append-nil names.zones)); heaps = ([], sym (append-nil names.heaps)) }
-
 front_onward : (low : SharedNames) (first rest : List (Hold SharedNames)) (high : SharedNames) → HoldOnward low (first ++ rest) high
     → HoldOnward low first (last_given low first)
-front_onward low [] rest high on = same_later low
+front_onward low [] rest high on = later_same low
 front_onward low (hold ∷ first) rest high on = (on.0, front_onward hold.given first rest high on.1)
 
 -- from where the others go on

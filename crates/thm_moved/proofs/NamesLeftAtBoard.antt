@@ -1,23 +1,20 @@
 -- At a closed board the names that are handed out agree with the heaps, with external memory, and with the tables that participants leave.
-use Rattle.std.proofs.Common.{◌≡◌, ◌∙◌, ◌==◌, ℕ, ◌<◌, List, [], ◌∷◌, Contains, filter, map, Option, Some, None, refl, ap, sym, subst, arith}
-use Rattle.std.specs.List.{All, flat_map, range_with_len, slice_get}
+use Rattle.std.proofs.Common.{◌≡◌, ◌∙◌, ◌==◌, ℕ, ◌<◌, List, [], ◌∷◌, Contains, filter, map, Some, refl, ap, sym, subst, arith}
+use Rattle.std.specs.List.{All, slice_get}
 use Rattle.std.specs.List.Sorted.{IsPermutation}
-use Rattle.std.specs.Option.{option_map_or}
 use Rattle.std.proofs.lemmas.Option.{slice_get_within}
 use Rattle.std.proofs.lemmas.List.Elements.{All-contains}
 use Rattle.hp_base.proofs.MemoryLemmas.{good_memory}
 use Rattle.hp_base.specs.ExternalMemory.{IsExternalMemory}
-use Rattle.hp_base.specs.declared.chunk.Chunk.{Chunk}
 use Rattle.hp_base.specs.declared.limits.TheConstants.{MAX_HEAPS}
 use Rattle.hp_base.specs.declared.row.Row.{Row}
 use Rattle.hp_base.specs.declared.span.Span.{Span}
 use Rattle.hp_board.specs.Views.{marked_in}
-use Rattle.hp_external.specs.Tie.{AreClaimed, AreListed, AreMarked, claim_of}
-use Rattle.hp_hall.specs.AgreedNames.{chunk_memory}
-use Rattle.hp_hall.specs.Naming.{Naming, marked_by, naming_of, unmarked}
+use Rattle.hp_external.specs.Tie.{AreClaimed, AreListed, AreMarked}
+use Rattle.hp_hall.specs.Naming.{Naming, marked_by, naming_of}
 use Rattle.hp_heap.specs.History.{HeapView}
 use Rattle.hp_heap.specs.Joining.{zone_ranges}
-use Rattle.hp_heap.specs.PlainHeap.{PlainHeap, data_address, opening_heap}
+use Rattle.hp_heap.specs.PlainHeap.{PlainHeap, data_address}
 use Rattle.hp_heap.specs.Tiling.{IsTiled}
 use Rattle.hp_maps.specs.MapsView.{chunk_rows}
 use Rattle.hp_maps.specs.declared.table.Table.{Table}
@@ -37,7 +34,7 @@ use Rattle.hp_proc.specs.NamesAtEnd.{AreClaimsOf, AreElementsOf, AreZonesOf, IsD
 use Rattle.hp_proc.specs.RunEnds.{HasAttached}
 use Rattle.hp_proc.specs.SharedNames.{directory_in, zones_in}
 use Rattle.thm_run.proofs.HallFacts.HallHeaps.{all_from_places}
-use Rattle.thm_run.proofs.NamesEnd.AgreedAtEnd.{all_claimed, all_known, all_marked, chunks_are, directory_is, lists_are, names_are, naming_at}
+use Rattle.thm_run.proofs.NamesEnd.AgreedAtEnd.{all_claimed, all_known, all_marked, claims_are, directory_is, lists_are, names_are, naming_at}
 use Rattle.thm_moved.proofs.CameToBoard.{its_seat}
 use Rattle.thm_moved.proofs.ClosedHeaps.{at_a_place}
 use Rattle.thm_moved.specs.AtBoard.{AllCameToTheirSeats}
@@ -46,17 +43,6 @@ use Rattle.thm_moved.specs.NamesLeft.{NamesLeftAtBoard}
 elements_are : (heap : PlainHeap) → (naming_of heap).zones ≡ zone_ranges heap
 unfolding naming_of
 elements_are heap = refl
-
--- the external memory of a heap's chunks, as names know them
-map_claims : (chunks : List Chunk) → map chunk_memory (map unmarked chunks) ≡ map claim_of chunks
-map_claims [] = refl
-map_claims (chunk ∷ chunks) = ap (λ (claims : List ExternalRange). claim_of chunk ∷ claims) (map_claims chunks)
-
-claims_are : (found : Option HeapView) (index : ℕ)
-    → map chunk_memory (option_map_or (λ heap. naming_of heap.plain) found (naming_of (opening_heap index None))).chunks
-    ≡ map claim_of (option_map_or (λ heap. heap.plain.chunks) found [])
-claims_are None index = ap (map chunk_memory) (chunks_are (opening_heap index None))
-claims_are (Some heap) index = ap (map chunk_memory) (chunks_are heap.plain) ∙ map_claims heap.plain.chunks
 
 module _ (workload : Workload) (answers : List Answer) (heaps : List HeapView) (segs : SegsView) (tables : List Table)
     (all : AllCameToTheirSeats workload answers heaps segs tables) where
@@ -86,9 +72,7 @@ module _ (workload : Workload) (answers : List Answer) (heaps : List HeapView) (
   }
 
   claimed : AreClaimsOf heaps segs.ranges
-  claimed =
-      subst (λ (claims : ℕ → List ExternalRange). IsPermutation (flat_map claims (range_with_len 0 MAX_HEAPS)) segs.ranges)
-      (λ i index. claims_are (slice_get heaps index) index i) all.left.agreed.claims
+  claimed = claims_are all.names heaps segs.ranges all.closed.heaps_are.count all.left.agreed
 
   -- each socket has its heap, whatever changes there were so far
   socket_heaps : (front : ℕ) → HasSocketHeaps (sockets_of workload.pools.items)
