@@ -1,3 +1,4 @@
+mod AddedHere
 pub mod AddressLies
 mod AgreedLater
 pub mod AllocAgrees
@@ -8,9 +9,8 @@ pub mod AwaitedLines
 pub mod HandFacts
 pub mod ChangedLines
 pub mod ChosenHeaps
-pub mod ChunkLies
-mod AddedHere
 mod ChunkCame
+pub mod ChunkLies
 mod ChunksLeft
 pub mod Continued
 mod ExternalMeant
@@ -20,6 +20,7 @@ mod DumpLines
 pub mod FoundZones
 pub mod HallMoments
 pub mod Halted
+pub mod HandFacts
 mod HeldArms
 pub mod InHandUntold
 pub mod InTurn
@@ -77,6 +78,7 @@ mod StatsLines
 pub mod StepsOrdered
 pub mod TreeDeeds
 pub mod Unarmed
+pub mod WaitsAside
 pub mod WhosePages
 pub mod WorkedLines
 pub mod ZoneAgrees
