@@ -20,7 +20,6 @@ mod DumpLines
 pub mod FoundZones
 pub mod HallMoments
 pub mod Halted
-pub mod HandFacts
 mod HeldArms
 pub mod InHandUntold
 pub mod InTurn
@@ -78,7 +77,6 @@ mod StatsLines
 pub mod StepsOrdered
 pub mod TreeDeeds
 pub mod Unarmed
-pub mod WaitsAside
 pub mod WhosePages
 pub mod WorkedLines
 pub mod ZoneAgrees
