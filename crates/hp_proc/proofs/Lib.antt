@@ -24,6 +24,7 @@ pub mod LeastData
 pub mod LineEnds
 pub mod LineFacts
 pub mod LinesApart
+pub mod LinesFreed
 pub mod LinesInHall
 pub mod LinesOrdered
 pub mod Lookups
@@ -76,3 +77,8 @@ pub mod ZoneAgrees
 pub mod ZoneElements
 pub mod ZoneNames
 mod ZonesWithout
+mod ZoneServed
+mod ZoneHeld
+mod ZoneTrees
+mod LinesNamed
+mod ZoneLooked

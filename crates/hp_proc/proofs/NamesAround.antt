@@ -111,7 +111,7 @@ module _ {doer mid : ParticipantView} {names given : NamesView} {from at between
       held.context counted
 
   -- what it did is what reading the names leads to
-  pub does_around : {new : ParticipantView} {heaps : List ℕ} (goes : SharedNames → Doing) (rest : Doing)
+  unfoldable pub does_around : {new : ParticipantView} {heaps : List ℕ} (goes : SharedNames → Doing) (rest : Doing)
       → (did : DoesNamed heaps me mid new names given at between (goes (shared_of names)) rest)
       → DoesHere heaps me doer new from to (reading_names goes) rest
   unfolding Leads Goes AreAsked
