@@ -1,7 +1,7 @@
 -- What was done with the names and a heap in hand, between taking that heap and giving it back.
 use Rattle.std.proofs.Common.{◌≡◌, ◌∙◌, ℕ, ◌+◌, ◌<◌, List, [], ◌∷◌, ◌++◌, length, Option, Some, refl, ap, sym, subst, arith}
 use Rattle.hp_base.specs.declared.limits.TheConstants.{MAX_HEAPS}
-use Rattle.hp_hall.proofs.HallStates.{did_then}
+use Rattle.hp_hall.proofs.HallStates.{did_same, did_then}
 use Rattle.hp_hall.specs.HallState.{HallState, OthersStay, SlotsStayBut}
 use Rattle.hp_hall.specs.Holding.{HeapPart}
 use Rattle.hp_hall.specs.Named.{GivesNames}
@@ -16,12 +16,13 @@ use Rattle.hp_proc.specs.Halting.{ActsOn}
 use Rattle.hp_proc.specs.Heaps.{sockets_of}
 use Rattle.hp_proc.specs.Histories.{entries_for}
 use Rattle.hp_proc.specs.LineInHall.{HaltsHere, HasCalledBeside, IsBesideTheNames, did_in, moment, moment_with}
-use Rattle.hp_proc.specs.NamesInHand.{AgreesStill, DoesNamed, DoesNamedHeld, HaltsNamed, HasCalledNamed, HasNamesBeside, IsReadyNamed, KeepsAgreed, KeepsNamed, TakesAgreed, entries_in, entries_with}
+use Rattle.hp_proc.specs.NamesInHand.{AgreesStill, DoesNamed, DoesNamedHeld, DoesNamedOnce, HaltsNamed, HasCalledNamed, HasNamesBeside, IsReadyNamed, KeepsAgreed, KeepsNamed, TakesAgreed, entries_in, entries_with}
 use Rattle.hp_proc.specs.NamesOfLines.{ChangesNames}
 use Rattle.hp_proc.specs.ParticipantView.{ParticipantView}
 use Rattle.hp_proc.specs.Progress.{Does, doer_at, with_hand}
 use Rattle.hp_proc.proofs.InHandUntold.{changes_between, changes_none, still_leads}
-use Rattle.hp_proc.proofs.Joining.{does_then}
+use Rattle.hp_proc.proofs.HandFacts.OnceHeld.{once_none}
+use Rattle.hp_proc.proofs.Joining.{does_same, does_still, does_then}
 use Rattle.hp_proc.proofs.NamesAround.{names_give_on}
 
 ended_leads : (trace : List Done) (rest : Doing) → Leads (Doing.Ended answer.Done) trace rest → trace ≡ []
@@ -184,4 +185,13 @@ named_stopped {me} {doer} {after} {names} {first} {last} called ready still give
     sockets = ready.sockets ∙ sym (ap (λ (context : Context). sockets_of context.pools) called.context);
   };
   context = called.context;
+}
+
+-- nothing was done
+pub named_nothing : (me : ℕ) (doer : ParticipantView) (names : NamesView) (state : HallState) (doing : Doing)
+    → DoesNamedOnce me doer doer names names state state doing doing
+unfolding does_same does_still
+named_nothing me doer names state doing = record {
+  does = record { held = []; once = once_none; does = does_same state.count (did_in me state state) doing (moment me doer state) (did_same me state) };
+  names = changes_none names;
 }
