@@ -1,5 +1,6 @@
 pub mod BesideNames
 pub mod Boxed
+pub mod Forgotten
 pub mod HandAgain
 pub mod HandAllocates
 pub mod HandAsked
@@ -11,8 +12,8 @@ pub mod HandExternal
 pub mod HandFreed
 pub mod HandGiven
 pub mod HandGrown
-pub mod HandLeaves
 pub mod HandKept
+pub mod HandLeaves
 pub mod HandMarks
 pub mod HandMoved
 pub mod HandNamed
@@ -22,6 +23,7 @@ pub mod HandTraded
 pub mod HandTried
 pub mod HeldBack
 pub mod HeldOn
+pub mod LeftBack
 pub mod Holds
 pub mod NamedBetween
 pub mod OnceHeld

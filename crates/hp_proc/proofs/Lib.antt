@@ -1,10 +1,12 @@
 pub mod AddressLies
 mod AgreedLater
+pub mod AllocAgrees
 pub mod AllocFacts
 pub mod AllocLines
 pub mod AttachedLines
 pub mod AwaitedLines
 pub mod HandFacts
+pub mod ChangedLines
 pub mod ChosenHeaps
 pub mod ChunkLies
 mod AddedHere
@@ -12,15 +14,19 @@ mod ChunkCame
 mod ChunksLeft
 pub mod Continued
 mod ExternalMeant
+pub mod DetachedLines
+mod DetachesHere
 mod DumpLines
 pub mod FoundZones
 pub mod HallMoments
 pub mod Halted
+mod HeldArms
 pub mod InHandUntold
 pub mod InTurn
 pub mod Joining
 pub mod LawLemmas
 pub mod LeastData
+mod LeftHere
 pub mod LineEnds
 pub mod LineFacts
 pub mod LinesApart
@@ -30,29 +36,30 @@ pub mod LinesOrdered
 pub mod Lookups
 mod LookedUp
 pub mod MadeHeaps
+mod MadeHere
 pub mod Makers
 pub mod Mapped
-mod HeldArms
-mod LeftHere
-mod MadeHere
+mod LeavingAll
+mod LeavingOn
+mod LeftHeld
 mod MappedHere
 mod MarksApart
 mod MayAttachHere
 pub mod MeantHeaps
 pub mod NamedPlaces
-pub mod NamesFollow
 pub mod NamesAround
+pub mod NamesFollow
 pub mod NamesBeside
 mod NamesHeld
 mod NamesRead
+pub mod Noted
 pub mod NotedCame
 pub mod NotedLeft
-pub mod Noted
 pub mod OrdinaryElements
 pub mod OwnNotes
 pub mod PagesStay
-pub mod Plans
 mod Permuted
+pub mod Plans
 mod PoolsFrom
 mod Registered
 mod RegisteredHere
@@ -82,3 +89,5 @@ mod ZoneHeld
 mod ZoneTrees
 mod LinesNamed
 mod ZoneLooked
+pub mod NamedTrees
+pub mod ThereDone

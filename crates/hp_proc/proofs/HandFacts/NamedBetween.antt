@@ -66,7 +66,7 @@ pub stopped_gives : {heaps : List ℕ} {me : ℕ} {old new : ParticipantView} {f
     → GivesNames (entries_in me to) taken names
 stopped_gives {heaps} {me} {old} {new} {from} {to} {taken} {names} halts gives =
     let one = halts (Doing.Ended answer.Done) in
-    names_give_on {entries_in me from} {entries_in me to} {taken} {names}
+    names_give_on {old = entries_in me from} {new = entries_in me to} {taken = taken} {given = names}
     (λ (at : ℕ). (entries_for old.party.me at (old.context.calls + 1) (calls_in one.trace), one.entries at)) gives
 
 -- the names are in hand beside the heap that was taken
@@ -78,7 +78,7 @@ pub beside_taken : (first second : HallState) (doer mid : ParticipantView) (heap
 beside_taken first second doer mid heap index was names here took gives =
     let me = doer.party.me in
     let one = took (Doing.Ended answer.Done) in
-    names_give_on {entries_in me first} {entries_with me heap second} {was} {names}
+    names_give_on {old = entries_in me first} {new = entries_with me heap second} {taken = was} {given = names}
     (λ (at : ℕ). (entries_for me at (doer.context.calls + 1) (calls_in one.trace),
       subst (λ (who : ℕ). (with_hand who heap (second.part me) at).entries
       ≡ (first.part me at).entries ++ entries_for me at (doer.context.calls + 1) (calls_in one.trace)) here (one.entries at))) gives
@@ -128,7 +128,7 @@ module _ (first second third last : HallState) (doer mid after : ParticipantView
   pub alone_given : {was : NamesView} → GivesNames (entries_with me next third) was given → GivesNames (entries_in me last) was given
   alone_given {was} gives =
       let one = back (Doing.Ended answer.Done) in
-      names_give_on {entries_with me next third} {entries_in me last} {was} {given}
+      names_give_on {old = entries_with me next third} {new = entries_in me last} {taken = was} {given = given}
       (λ (at : ℕ). (entries_for after.party.me at (after.context.calls + 1) (calls_in one.trace),
         subst (λ (who : ℕ). (last.part me at).entries
         ≡ (with_hand who next (third.part me) at).entries ++ entries_for after.party.me at (after.context.calls + 1) (calls_in one.trace)) there
