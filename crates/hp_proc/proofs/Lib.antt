@@ -84,10 +84,10 @@ pub mod ZoneAgrees
 pub mod ZoneElements
 pub mod ZoneNames
 mod ZonesWithout
+pub mod NamedTrees
+pub mod ThereDone
 mod ZoneServed
 mod ZoneHeld
 mod ZoneTrees
 mod LinesNamed
 mod ZoneLooked
-pub mod NamedTrees
-pub mod ThereDone
