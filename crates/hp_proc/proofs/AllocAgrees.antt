@@ -1,8 +1,8 @@
 -- Names agree with what its participant knows, with the heap in its hand in which a request was tried.
 use Rattle.std.proofs.Common.{◌≡◌, ◌∙◌, ◌+◌, ◌++◌, ℕ, Bool, true, false, cond, eqb, List, [], append-nil, Option, Some, None, refl, ap, sym, subst}
 use Rattle.std.specs.List.{reduce}
-use Rattle.std.specs.Prelude.{Err, IfNone, IsErrAnd, Ok, Result}
-use Rattle.std.proofs.lemmas.Bool.{eq-eqb}
+use Rattle.std.specs.Prelude.{Err, IfNone, IsErr, Ok, Result}
+use Rattle.std.proofs.lemmas.Bool.{eq-eqb, false≢true}
 use Rattle.hp_base.specs.declared.request.Request.{Request}
 use Rattle.hp_base.specs.declared.span.Span.{Span}
 use Rattle.hp_base.specs.declared.tag.Caller.{Caller}
@@ -52,12 +52,12 @@ none_of None given none = given
 none_of (Some addr) given none = cc
 
 -- a line that stopped gave no answer
-pub stopped_none : {E : Type 0} {P : E → Type 0} (result : Result (Option Answer) E) → IsErrAnd result P → None ≡ answer_of result
-stopped_none (Ok given) is = absurd is
+pub stopped_none : {E : Type 0} (result : Result (Option Answer) E) → IsErr result → None ≡ answer_of result
+stopped_none (Ok given) is = absurd (false≢true is)
 stopped_none (Err stopped) is = refl
 
-pub stopped_last : {E : Type 0} {P : E → Type 0} (result : Result (Answer × ℕ) E) → IsErrAnd result P → None ≡ last_answer_of result
-stopped_last (Ok given) is = absurd is
+pub stopped_last : {E : Type 0} (result : Result (Answer × ℕ) E) → IsErr result → None ≡ last_answer_of result
+stopped_last (Ok given) is = absurd (false≢true is)
 stopped_last (Err stopped) is = refl
 
 -- it was held on, and what the names say of it is as it was

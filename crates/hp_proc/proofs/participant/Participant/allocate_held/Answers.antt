@@ -198,7 +198,7 @@ returns-in_err-grow-clause-agrees g c =
     let me = c.args.self.now.party.me in
     subst (λ (given : Option Answer). AgreeOnceAnsweredIn me c.args.tag given c.args.heap.now c.grow.new.heap
     ((g.H.Hall.state c.args.hall.now).part me) ((g.H.Hall.state c.grow.new.hall).part me))
-    (stopped_none c.from_residual.result c.from_residual.ensures.1)
+    (stopped_none c.from_residual.result c.from_residual.ensures.0)
     (agrees_passed (keeps_asked c.args.self.now c.args.heap.now c.allocate_in.new.heap c.with_flags-first.result c.args.tag c.allocate_in.result (g.H.Hall.state c.args.hall.now) c.allocate_in.ensures.step
     c.requires.holds c.allocate_in.ensures.none c.in_default.is c.allocate_in.new.self c.grow.new.self c.grow.new.heap (g.H.Hall.state c.grow.new.hall)
     (ap (λ (doer : ParticipantView). doer.party.me) c.allocate_in.ensures.counted) c.grow.ensures.keeps c.grow.ensures.says))

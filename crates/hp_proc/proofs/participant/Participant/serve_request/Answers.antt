@@ -377,7 +377,7 @@ returns-in_err-answer-clause-agrees g c =
     let second = g.H.Hall.state c.loop-place.hall in
     let third = g.H.Hall.state c.try_heap.new.hall in
     subst (λ (given : Option Answer). AgreeOnceAnswered c.args.tag given (last_heap_of c.from_residual.result)
-    ((g.H.Hall.state c.args.hall.now).part me) (third.part me)) (stopped_last c.from_residual.result c.from_residual.ensures.1)
+    ((g.H.Hall.state c.args.hall.now).part me) (third.part me)) (stopped_last c.from_residual.result c.from_residual.ensures.0)
     (agrees_none (no_address None refl) (λ names agree.
     subst (λ (who : ℕ). AgreeWith (third.part who) names) was.called.same.me
     (c.try_heap.ensures.agrees.still names (inr (no_address (answer_of c.try_heap.result) (ap answer_of c.in_err-answer.was)))

@@ -211,7 +211,7 @@ pub returns-in_err-heap-clause-agrees : goal.returns-in_err-heap-clause-agrees
 returns-in_err-heap-clause-agrees g c =
     let me = c.args.self.now.party.me in
     subst (λ (given : Option Answer). AgreeOnceAnswered c.args.tag given c.args.place.now.index ((g.H.Hall.state c.args.hall.now).part me)
-    ((g.H.Hall.state c.hold.new.hall).part me)) (stopped_none c.from_residual.result c.from_residual.ensures.1)
+    ((g.H.Hall.state c.hold.new.hall).part me)) (stopped_none c.from_residual.result c.from_residual.ensures.0)
     (agrees_passed c.in_err-heap.ensures.agreed)
 
 pub returns-clause-agrees : goal.returns-clause-agrees
