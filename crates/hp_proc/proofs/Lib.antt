@@ -79,3 +79,4 @@ mod ZoneHeld
 mod ZoneTrees
 mod LinesNamed
 mod ZoneLooked
+mod ZonePlaces
