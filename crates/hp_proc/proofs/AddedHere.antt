@@ -73,6 +73,10 @@ use Rattle.hp_zone.specs.declared.name_change.NameChange.TheVariants.{Range}
 use Rattle.hp_zone.specs.declared.name_change.NameChange.{NameChange}
 use Rattle.hp_zone.specs.declared.names.Names.{Names as NamesView}
 
+socket_of : (h : PlainHeap) → (naming_of h).socket ≡ h.socket
+unfolding naming_of
+socket_of h = refl
+
 -- WITH THE SEGMENT VALUE IN HAND BESIDE
 
 module _ (old : ParticipantView) (names : NamesView) (heap : HeapView) (taken : SegsView) {a b : HallState} (took : Took old.party.me taken a b)
@@ -201,10 +205,6 @@ module _ (old : ParticipantView) (names given : NamesView) (heap next : HeapView
       (ap option_flatten adds.named.found.there) (holds.agrees.agreed.each here holds.holds.in_hand.few).name
       ∙ ap (λ (n : Naming). n.socket) (sym (known_here heap (a.part who) names holds.agrees holds.holds.in_hand.few)) ∙ socket_of heap.plain
     where
-      socket_of : (h : PlainHeap) → (naming_of h).socket ≡ h.socket
-      unfolding naming_of
-      socket_of h = refl
-
       by_text : (naming : Naming) (heap : HeapName) (text : Option (List ℕ)) → Some heap ≡ option_map (λ (t : List ℕ). record { name = t; socket = naming.socket }) text
           → heap.socket ≡ naming.socket
       by_text naming heap None same = absurd (cc)

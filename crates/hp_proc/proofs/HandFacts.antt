@@ -1,5 +1,7 @@
 pub mod BesideNames
 pub mod Boxed
+pub mod Forgotten
+pub mod HandAgain
 pub mod HandAllocates
 pub mod HandAsked
 pub mod HandAttaches
@@ -7,10 +9,11 @@ pub mod HandCalls
 pub mod HandCut
 pub mod HandDone
 pub mod HandExternal
+pub mod HandFreed
 pub mod HandGiven
 pub mod HandGrown
-pub mod HandLeaves
 pub mod HandKept
+pub mod HandLeaves
 pub mod HandMarks
 pub mod HandMoved
 pub mod HandNamed
@@ -20,6 +23,8 @@ pub mod HandTraded
 pub mod HandTried
 pub mod HeldBack
 pub mod HeldOn
+pub mod LeftBack
 pub mod Holds
+pub mod NamedBetween
 pub mod OnceHeld
 pub mod SeenHeap

@@ -209,6 +209,7 @@ module _ (old new : ParticipantView) (names : NamesView) (heap next : HeapView) 
   left_note : DetachesNoted text note old new names.heaps.plain heap next → LeavesNoted note old new heap next
   left_note gone = record {
     its = refl;
+    order = order;
     leaves = record {
       chunk = gone.detaches.chunk;
       there = gone.detaches.named.there;
@@ -218,6 +219,7 @@ module _ (old new : ParticipantView) (names : NamesView) (heap next : HeapView) 
       others = gone.detaches.others;
       unshared = gone.detaches.unshared;
     };
+    mark = gone.detaches.marked;
     noted = gone.noted;
   }
 

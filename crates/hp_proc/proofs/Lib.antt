@@ -1,5 +1,6 @@
 pub mod AddressLies
 mod AgreedLater
+pub mod AllocAgrees
 pub mod AllocFacts
 pub mod AllocLines
 pub mod AttachedLines
@@ -12,14 +13,19 @@ mod ChunkCame
 mod ChunksLeft
 pub mod Continued
 mod ExternalMeant
+pub mod DetachedLines
+mod DetachesHere
 mod DumpLines
 pub mod FoundZones
 pub mod HallMoments
 pub mod Halted
+pub mod InHandUntold
+mod HeldArms
 pub mod InTurn
 pub mod Joining
 pub mod LawLemmas
 pub mod LeastData
+mod LeftHere
 pub mod LineEnds
 pub mod LineFacts
 pub mod LinesApart
@@ -28,29 +34,30 @@ pub mod LinesOrdered
 pub mod Lookups
 mod LookedUp
 pub mod MadeHeaps
+mod MadeHere
 pub mod Makers
 pub mod Mapped
-mod HeldArms
-mod LeftHere
-mod MadeHere
+mod LeavingAll
+mod LeavingOn
+mod LeftHeld
 mod MappedHere
 mod MarksApart
 mod MayAttachHere
 pub mod MeantHeaps
 pub mod NamedPlaces
-pub mod NamesFollow
 pub mod NamesAround
 pub mod NamesBeside
+pub mod NamesFollow
 mod NamesHeld
 mod NamesRead
+pub mod Noted
 pub mod NotedCame
 pub mod NotedLeft
-pub mod Noted
 pub mod OrdinaryElements
 pub mod OwnNotes
 pub mod PagesStay
-pub mod Plans
 mod Permuted
+pub mod Plans
 mod PoolsFrom
 mod Registered
 mod RegisteredHere
@@ -74,6 +81,7 @@ pub mod WorkedLines
 pub mod ZoneAgrees
 pub mod ZoneElements
 pub mod ZoneNames
+mod ZonesWithout
 mod ZoneServed
 mod ZoneHeld
 mod ZoneTrees

@@ -76,7 +76,7 @@ unfolding Only
 giving_nameless heap (gives.Pages run) = λ given. (tt, tt)
 giving_nameless heap _ = tt
 
-cutting_nameless : (place : SearchedHeap) (address : ℕ) (serves : Option ℕ) → place.serves ≡ serves → Only IsNameless (cutting place address)
+pub cutting_nameless : (place : SearchedHeap) (address : ℕ) (serves : Option ℕ) → place.serves ≡ serves → Only IsNameless (cutting place address)
 unfolding Only
 cutting_nameless place address None is = rw is tt
 cutting_nameless place address (Some socket) is = rw is (λ given. (tt, giving_nameless place.index given))

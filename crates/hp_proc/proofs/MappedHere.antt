@@ -1,18 +1,20 @@
 -- A chunk of the heap in hand that is mapped and marked, or is not, while the segment value is in hand too.
-use Rattle.std.proofs.Common.{◌++◌, ◌<◌, ◌∙◌, ◌∷◌, ◌≡◌, ◌≢◌, ◌≤◌, Bool, Contains, List, Option, Some, [], ap, cond, eqb, false, inl, inr, refl, subst, sym, true, ℕ}
+use Rattle.std.proofs.Common.{◌++◌, ◌<◌, ◌^◌, ◌∙◌, ◌∷◌, ◌≡◌, ◌≢◌, ◌≤◌, Bool, Contains, List, Option, Some, [], ap, cond, eqb, false, inl, inr, refl, subst, sym, true, ℕ}
 use Rattle.hp_base.specs.Flags.{has_bit}
-use Rattle.hp_base.specs.Mapping.{is_done}
+use Rattle.hp_base.specs.Mapping.{AreApart, is_done}
 use Rattle.hp_base.specs.declared.caught.Caught.TheVariants as caught
 use Rattle.hp_base.specs.declared.caught.Caught.{Caught}
 use Rattle.hp_base.specs.declared.chunk.Chunk.{Chunk}
 use Rattle.hp_base.specs.declared.limits.TheConstants.{MAX_HEAPS, MAX_SEGMENTS}
 use Rattle.hp_base.specs.declared.pool_line.PoolLine.{PoolLine}
 use Rattle.hp_base.specs.declared.row.Row.{Row}
+use Rattle.hp_events.specs.declared.validator.Validator.{Validator}
 use Rattle.hp_external.proofs.ChunkLemmas.{among_chunks}
-use Rattle.hp_external.specs.Attaching.{IsAttachFault, IsFailedCall, IsMapFault, SameButRows}
+use Rattle.hp_external.specs.Attaching.{Attaches, IsAttachFault, IsFailedCall, IsMapFault, MayAttach, SameButRows}
 use Rattle.hp_external.specs.Naming.{IsNamedChunk}
 use Rattle.hp_external.specs.declared.fault.AttachFault.TheVariants as attach
 use Rattle.hp_external.specs.declared.fault.AttachFault.{AttachFault}
+use Rattle.hp_hall.proofs.HallStates.{others_same}
 use Rattle.hp_hall.proofs.NamesLeft.{call_leaves}
 use Rattle.hp_hall.specs.AgreedNames.{AreAgreedNames}
 use Rattle.hp_hall.specs.HallState.{Did, HallState}
@@ -26,7 +28,7 @@ use Rattle.hp_heap.specs.declared.entry.HeapAnswer.TheVariants as gives
 use Rattle.hp_heap.specs.declared.entry.HeapCall.TheVariants as call
 use Rattle.hp_log.specs.declared.log_record.LogRecord.{LogRecord}
 use Rattle.hp_maps.specs.Chunks.{rows_of_chunk}
-use Rattle.hp_maps.specs.MapsView.{MapsView, chunk_rows, table_in}
+use Rattle.hp_maps.specs.MapsView.{MapsView, calls_of, chunk_rows, table_in}
 use Rattle.hp_proc.proofs.AddedHere.{distinct_here, holds_back, holds_given, looked_does, looked_keeps, ranges_here, standing_here}
 use Rattle.hp_proc.proofs.AgreedLater.{renamed}
 use Rattle.hp_proc.proofs.ExternalMeant.{not_missing, not_socket}
@@ -38,6 +40,7 @@ use Rattle.hp_proc.proofs.HandFacts.HandNamed.{still_agreed}
 use Rattle.hp_proc.proofs.HandFacts.HandTraded.{parts_alike, traded, traded_did}
 use Rattle.hp_proc.proofs.Joining.{context_still}
 use Rattle.hp_proc.proofs.MarksApart.{marks_apart}
+use Rattle.hp_proc.proofs.MayAttachHere.{may_attach_here}
 use Rattle.hp_proc.specs.Acting.{Acts, AreAsked}
 use Rattle.hp_proc.specs.Contexts.{Context, after_calls, with_chunks}
 use Rattle.hp_proc.specs.Doing.Done.{Called, ChunkMapped}
@@ -51,17 +54,20 @@ use Rattle.hp_proc.specs.MappedChunks.{MapsChunk}
 use Rattle.hp_proc.specs.MarksInHand.{HoldsNamedMarked, KeepsMarked}
 use Rattle.hp_proc.specs.NamesInHand.{DoesNamedHeld}
 use Rattle.hp_proc.specs.OwnChunks.{chunks_of, with_own_chunk}
-use Rattle.hp_proc.specs.ParticipantView.{ParticipantView, with_party}
+use Rattle.hp_proc.specs.ParticipantView.{ParticipantView, after_call, noting_chunks, participant_of, with_party}
 use Rattle.hp_proc.specs.Progress.{caller_of}
 use Rattle.hp_proc.specs.declared.own_chunk.OwnChunk.{OwnChunk}
 use Rattle.hp_script.specs.declared.answer.Answer.TheVariants as answer
 use Rattle.hp_script.specs.declared.answer.Answer.{Answer}
+use Rattle.hp_segs.specs.LogPlaces.{LogIsPlaced, RangesAreOutside, SlotsAreFew}
 use Rattle.hp_segs.specs.SegsView.{SegsView}
+use Rattle.hp_serve.proofs.Carrying.{same_party}
 use Rattle.hp_serve.proofs.SegmentSlots.{Took}
 use Rattle.hp_serve.specs.Party.{IsSameParty, Party, with_maps}
 use Rattle.hp_serve.specs.SegmentSlot.{PutsBack, StaysButParts}
 use Rattle.hp_serve.specs.Serving.{gives_segments, takes_segments}
 use Rattle.hp_serve.specs.Tied.{HasChunks, IsTied}
+use Rattle.hp_zone.specs.Directory.{PlainDirectory}
 use Rattle.hp_zone.specs.declared.names.Names.{Names as NamesView}
 
 -- a table with the same rows is tied as before, whatever calls its mapper made
@@ -202,6 +208,60 @@ module _ (old new : ParticipantView) (names : NamesView) (heap next : HeapView) 
     pub mapped_does : DoesNamedHeld me old new names names heap next a c (mapping me at addr len (chunk_at addr len heap.plain)) (Doing.Ended answer.Done)
     mapped_does =
         subst (λ (doing : Doing). DoesNamedHeld me old new names names heap next a c doing (Doing.Ended answer.Done)) (sym tree_is) does_mapped
+
+-- IT MAY BE
+
+pub may_attach_then : (old : ParticipantView) (names : NamesView) (heap : HeapView) (taken : SegsView) {a b : HallState}
+    → Took old.party.me taken a b → HoldsNamedMarked old.party.me old names heap a → LogIsPlaced → RangesAreOutside → SlotsAreFew
+    → AreApart old.party.maps.rows → calls_of old.party.maps ≤ 2 ^ 63 → (addr len : ℕ) → MayAttach old.party.me addr len heap.plain old.party.maps
+may_attach_then old names heap taken {a} {b} took holds placed outside few apart calls addr len =
+    let grown = took.others.later.seen old.party.me in
+    may_attach_here old.party.me old names heap a taken took.took.sound placed outside few apart (standing_here old names heap taken took holds) grown.0
+    (took.took.log ∙ grown.1) holds calls addr len
+
+-- it attached the chunk, counted its call, and noted the chunk
+pub attaches_noted : (text : List ℕ) (addr len : ℕ) (old mid new : ParticipantView) (plain : PlainDirectory) (heap next : HeapView)
+    → mid ≡ with_party (with_maps mid.party.maps old.party) old
+    → Attaches (caller_of old) plain text addr len heap next old.party.maps mid.party.maps
+    → new ≡ noting_chunks (with_own_chunk (record { heap = heap.plain.index; addr = addr; len = len }) old.context.standing.chunks) (after_call mid)
+    → AttachesNoted text (record { heap = heap.plain.index; addr = addr; len = len }) old new plain heap next
+attaches_noted text addr len old mid new plain heap next only attaches noted =
+    let kept = with_own_chunk (record { heap = heap.plain.index; addr = addr; len = len }) old.context.standing.chunks in
+    let is = noted ∙ ap (λ (d : ParticipantView). noting_chunks kept (after_call d)) only in
+    let maps : mid.party.maps ≡ new.party.maps = sym (ap (λ (d : ParticipantView). d.party.maps) is) in
+    record {
+      its = refl;
+      attaches = subst (λ (m : MapsView). Attaches (caller_of old) plain text addr len heap next old.party.maps m) maps attaches;
+      noted = is ∙ ap (λ (m : MapsView). noting_chunks kept (after_call (with_party (with_maps m old.party) old))) maps;
+    }
+
+-- it noted the chunk
+pub notes_chunk : {party : Party} {validators : List (Validator Bool)} {context noted : Context} {mid counted old : ParticipantView}
+    {party' : Party} {validators' : List (Validator Bool)} {first : Context} {items : List OwnChunk} {index at addr len : ℕ}
+    → participant_of party validators context ≡ counted → counted ≡ after_call mid → noted ≡ with_chunks items context
+    → items ≡ with_own_chunk (record { heap = index; addr = addr; len = len }) first.standing.chunks → participant_of party' validators' first ≡ old
+    → index ≡ at
+    → participant_of party validators noted
+    ≡ noting_chunks (with_own_chunk (record { heap = at; addr = addr; len = len }) old.context.standing.chunks) (after_call mid)
+notes_chunk {party} {validators} {context} {noted} {mid} {counted} {old} {party'} {validators'} {first} {items} {index} {at} {addr} {len}
+    view counts notes are was same =
+    let kept : items ≡ with_own_chunk (record { heap = at; addr = addr; len = len }) old.context.standing.chunks =
+    are ∙ ap (λ (heap : ℕ). with_own_chunk (record { heap = heap; addr = addr; len = len }) first.standing.chunks) same
+    ∙ ap (λ (d : ParticipantView). with_own_chunk (record { heap = at; addr = addr; len = len }) d.context.standing.chunks) was in
+    ap (participant_of party validators) notes ∙ ap (noting_chunks items) (view ∙ counts)
+    ∙ ap (λ (chunks : List OwnChunk). noting_chunks chunks (after_call mid)) kept
+
+-- nothing was done
+pub nothing_keeps : (old : ParticipantView) (names : NamesView) (heap : HeapView) (state : HallState)
+    → HoldsNamedMarked old.party.me old names heap state → KeepsMarked old.party.me old old names heap heap state state
+nothing_keeps old names heap state holds = record {
+  holds = holds;
+  index = refl;
+  its_socket = refl;
+  same = same_party old.party;
+  pools = refl;
+  others = others_same old.party.me state;
+}
 
 -- IT IS NOT
 

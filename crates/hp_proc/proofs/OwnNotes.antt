@@ -101,7 +101,7 @@ rising_both [] second here there apart = there
 rising_both (chunk ∷ first) second here there apart = (
   all_both (λ (other : OwnChunk). is_before chunk other ≡ true) first second here.0
       (AllByRecursion-each (λ (other : OwnChunk). is_before chunk other ≡ true) second (λ other among. apart chunk other (Contains-here chunk first) among)),
-  rising_both first second here.1 there (λ one other low high. apart one other (Contains-there one chunk first low) high),
+  rising_both first second here.1 there (λ one other low high. apart one other (Contains-there chunk one first low) high),
 )
 
 -- with one chunk more they are so still, and without one

@@ -69,6 +69,11 @@ use Rattle.hp_zone.specs.declared.name_change.NameChange.TheVariants.{RangeGone}
 use Rattle.hp_zone.specs.declared.name_change.NameChange.{NameChange}
 use Rattle.hp_zone.specs.declared.names.Names.{Names as NamesView}
 
+named_count : (list : ℕ) (h : PlainHeap) → count_by (λ (c : Chunk). eqb c.list list) h.chunks ≤ 1
+    → count_by (λ (c : Chunk). eqb c.list list) (naming_of h).chunks ≤ 1
+unfolding naming_of
+named_count list h few = omega (arith, few, count_map unmarked (λ (c : Chunk). eqb c.list list) h.chunks)
+
 module _ (old : ParticipantView) (names given : NamesView) (heap next : HeapView) (taken last : SegsView) (text : List ℕ) (addr len : ℕ)
     {a b : HallState} (took : Took old.party.me taken a b) (holds : HoldsNamedMarked old.party.me old names heap a)
     (order : AreInOrder heap.plain.chunks) (fresh : IsAsTaken a.taken heap) (meant : IsNamedHeap names.heaps.plain text heap.plain.index)
@@ -201,12 +206,7 @@ module _ (old : ParticipantView) (names given : NamesView) (heap next : HeapView
     own_lists : count_by (λ (c : Chunk). eqb c.list chunk.list) (holds.agrees.namings at).chunks ≤ 1
     own_lists =
         subst (λ (n : Naming). count_by (λ (c : Chunk). eqb c.list chunk.list) n.chunks ≤ 1) its_naming
-        (named_count heap.plain (tiled.laid.own_lists chunk.list))
-      where
-        named_count : (h : PlainHeap) → count_by (λ (c : Chunk). eqb c.list chunk.list) h.chunks ≤ 1
-            → count_by (λ (c : Chunk). eqb c.list chunk.list) (naming_of h).chunks ≤ 1
-        unfolding naming_of
-        named_count h few = omega (arith, few, count_map unmarked (λ (c : Chunk). eqb c.list chunk.list) h.chunks)
+        (named_count chunk.list heap.plain (tiled.laid.own_lists chunk.list))
 
     agreed_next : AreAgreedNames given (renamed at (naming_of next.plain) holds.agrees.namings) ranges
     agreed_next =

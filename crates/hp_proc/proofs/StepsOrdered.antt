@@ -259,7 +259,7 @@ module _ (P : MailStep → List ℕ → Type 0) (suits : Suits P) (Ok : Bool →
   )
   acts_along names _ _ _ _ _ _ _ (Acts.attaches doer after taken caught attached) few ok =
       attach_by names taken (after_attaching doer.party.me caught taken) caught (length taken.log)
-  acts_along names _ _ _ _ _ _ _ (Acts.detaches doer taken told other none are_told) few ok =
+  acts_along names _ _ _ _ _ _ _ (Acts.detaches doer taken told above none bare are_told) few ok =
       detach_by names taken (after_leave doer.party.me taken) Emptied
   acts_along names _ _ _ _ _ _ _ (Acts.notes_left doer elements) few ok = (refl, tt)
   acts_along true _ _ _ _ _ _ _ (Acts.reads_names doer view) few ok = absurd (allows.once _ _ _ ok)

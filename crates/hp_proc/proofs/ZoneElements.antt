@@ -1,9 +1,9 @@
 -- The elements of memzones of a heap, to the names, where one comes or goes.
 use Rattle.std.proofs.Common.{◌≡◌, ◌∙◌, ℕ, ◌+◌, ◌<◌, Bool, true, false, cond, eqb, eq-eqb, not, List, [], ◌∷◌, ◌++◌, map, length, remove, Contains, Option, Some, None, IsSomeAnd, refl, sym, ap, subst, arith, count_by}
-use Rattle.std.specs.List.{AllByRecursion, filter}
+use Rattle.std.specs.List.{AllByRecursion, filter, find}
 use Rattle.std.specs.List.Sorted.{IsPermutation}
 use Rattle.std.specs.Option.{option_and_then}
-use Rattle.std.proofs.lemmas.Bool.{and_parts, eqb-true, false≢true}
+use Rattle.std.proofs.lemmas.Bool.{and_from, and_parts, eqb-true, false≢true}
 use Rattle.std.proofs.lemmas.Option.{none-some, same_Some}
 use Rattle.std.proofs.lemmas.List.Elements.{filter-append}
 use Rattle.std.proofs.lemmas.List.Sorted.{IsPermutation-cons, IsPermutation-map, IsPermutation-middle, IsPermutation-refl, IsPermutation-remove, IsPermutation-sym, IsPermutation-trans, sum_by-IsPermutation}
@@ -13,7 +13,7 @@ use Rattle.hp_base.specs.declared.span.SpanState.{SpanState}
 use Rattle.hp_base.specs.declared.span.SpanState.TheVariants.{Free, Busy}
 use Rattle.hp_base.specs.declared.tag.Tag.{Tag}
 use Rattle.hp_heap.proofs.HistoryFacts.BusyLaw.{allocates_alone}
-use Rattle.hp_heap.proofs.HistoryFacts.BusyLemmas.{before_elsewhere, behind_elsewhere, busy, elsewhere, zones_of_busy}
+use Rattle.hp_heap.proofs.HistoryFacts.BusyLemmas.{before_data, before_elsewhere, behind_elsewhere, busy, elsewhere, zones_of_busy}
 use Rattle.hp_heap.proofs.AllocFacts.ChoiceLaw.{AllByRecursion-contains, Contains-here}
 use Rattle.hp_heap.proofs.HistoryFacts.Counting.{count_by-cons}
 use Rattle.hp_heap.proofs.FreeFacts.FreeLaw.{frees_alone}
@@ -93,6 +93,24 @@ zone_apart heap r tiled has zone =
     (subst (λ (l : List Span). IsPermutation (map data_address (filter is_zone_range xs ++ (r ∷ filter is_zone_range ys))) (a ∷ map data_address l)) (sym others)
     (IsPermutation-map data_address (filter is_zone_range xs ++ (r ∷ filter is_zone_range ys)) (r ∷ (filter is_zone_range xs ++ filter is_zone_range ys))
     (IsPermutation-middle (filter is_zone_range xs) r (filter is_zone_range ys))))
+
+-- the first element of a list that passes, behind some that don't
+find_behind : (passes : Span → Bool) (xs ys : List Span) (r : Span) → AllByRecursion (λ (q : Span). passes q ≡ false) xs → passes r ≡ true
+    → find passes (xs ++ r ∷ ys) ≡ Some r
+find_behind passes [] ys r none here = rw here refl
+find_behind passes (x ∷ xs) ys r none here = rw (none.0) (find_behind passes xs ys r none.1 here)
+
+-- the element of a memzone is the one that is busy there
+pub zone_there : (heap : PlainHeap) (r : Span) → IsTiled heap → Contains heap.ranges r → is_zone_range r ≡ true → HasZoneAt (data_address r) heap
+unfolding busy_at
+zone_there heap r tiled has zone =
+    let (xs, ys, among) = among_ranges heap r tiled has in
+    let a = data_address r in
+    let held : busy r ≡ true = zone_held r.state zone in
+    let here : has_data_at a r ≡ true = and_from (busy r) (eqb a a) held (eq-eqb a a refl) in
+    let is : find (has_data_at a) heap.ranges ≡ Some r =
+    ap (find (has_data_at a)) among.ranges ∙ find_behind (has_data_at a) xs ys r (before_data heap r xs ys among held) here in
+    subst (λ (found : Option Span). IsSomeAnd found (λ (range : Span). is_zone_range range ≡ true)) (sym is) zone
 
 -- the busy element at an address, where it has a memzone's tag
 record IsZoneAt (address : ℕ) (heap : PlainHeap) : Type 0 where

@@ -17,6 +17,8 @@ use Rattle.hp_hall.specs.declared.kept.Kept.{Kept}
 use Rattle.hp_hall.specs.declared.kept.Kept.TheVariants.{Heap, Names}
 use Rattle.hp_hall.specs.declared.slot.TheConstants.{NAMES_SLOT}
 use Rattle.hp_heap.specs.History.{HeapView}
+use Rattle.hp_heap.specs.PlainHeap.{PlainHeap}
+use Rattle.hp_heap.specs.declared.entry.Entry.{Entry}
 use Rattle.hp_maps.specs.Chunks.{rows_of_chunk}
 use Rattle.hp_script.specs.declared.answer.Answer.{Answer}
 use Rattle.hp_script.specs.declared.answer.Answer.TheVariants.{Address}
@@ -28,7 +30,8 @@ use Rattle.hp_script.specs.declared.options.SocketChoice.{SocketChoice}
 use Rattle.hp_proc.specs.Acting.{Acts}
 use Rattle.hp_proc.specs.Awaiting.{MayAwait}
 use Rattle.hp_proc.specs.Doing.{Doing}
-use Rattle.hp_proc.specs.Doing.Done.{NamesRead}
+use Rattle.hp_proc.specs.Doing.Done.{HeapSeen, NamesRead}
+use Rattle.hp_proc.specs.ExternalLines.{seeing_heap}
 use Rattle.hp_proc.specs.Halting.{Halts, HaltsLine}
 use Rattle.hp_proc.specs.Handing.{shared_of}
 use Rattle.hp_proc.specs.Heaps.{has_name, heaps_for, socket_heaps, sockets_of}
@@ -73,6 +76,12 @@ DoesApartHere me old new from to doing rest = DoesApart from.count (did_in me fr
 abbrev pub DoesHeld : ℕ → ParticipantView → ParticipantView → HeapView → HeapView → HallState → HallState → Doing → Doing → Type 0
 DoesHeld me old new before behind from to doing rest =
     Does [] from.count (did_in me from to) doing rest (moment_with before me old from) (moment_with behind me new to)
+
+-- it took the heap of that index, which was handed over with its history, and took notice of nothing else
+pub record SeesHeap (index me : ℕ) (old new : ParticipantView) (heap : HeapView) (from to : HallState) (goes : PlainHeap → Doing) : Type 0 where
+  pub does : Does (index ∷ []) from.count (did_in me from to) (seeing_heap index goes) (goes heap.plain) (moment me old from) (moment_with heap me new to)
+  pub history : List Entry
+  pub alone : does.trace ≡ HeapSeen index history ∷ []
 
 abbrev pub DoesLineHere : ℕ → ParticipantView → ParticipantView → HallState → HallState → Line → Answer → Type 0
 DoesLineHere me old new from to line given = DoesLine from.count (did_in me from to) line given (moment me old from) (moment me new to)

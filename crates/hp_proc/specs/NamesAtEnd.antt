@@ -1,12 +1,13 @@
 -- How names agree with heaps, at the end of a run and where a line is handed both: the rules "Memzones", "The directory of heaps" and "The
 -- tie" of docs/HEAP.md.
 use Rattle.std.specs.Prelude.{◌≡◌, ℕ, ◌+◌, ◌<◌, ◌==◌, List, [], ◌∷◌, filter, length, map, Option, Some, Contains, slice_get}
-use Rattle.std.specs.List.{All}
+use Rattle.std.specs.List.{All, flat_map, range_with_len}
 use Rattle.std.specs.List.Sorted.{IsPermutation}
-use Rattle.std.specs.Option.{option_and_then, option_map}
+use Rattle.std.specs.Option.{option_and_then, option_map, option_map_or}
+use Rattle.hp_base.specs.declared.chunk.Chunk.{Chunk}
 use Rattle.hp_base.specs.declared.limits.TheConstants.{MAX_HEAPS}
 use Rattle.hp_base.specs.declared.pool_line.PoolLine.{PoolLine}
-use Rattle.hp_external.specs.Tie.{AreClaimed, AreListed}
+use Rattle.hp_external.specs.Tie.{AreClaimed, AreListed, claim_of}
 use Rattle.hp_hall.specs.Named.{IsAllocated}
 use Rattle.hp_heap.specs.History.{HeapView}
 use Rattle.hp_heap.specs.Joining.{zone_ranges}
@@ -39,6 +40,14 @@ pub record IsDirectoryOf (workload : Workload) (names : SharedNames) (claims : L
   pub chunks_are : All (λ heap. AreListed (directory_in workload.pools.items names).ranges heap.plain) heaps
   pub no_other : All (λ range. range.index < MAX_HEAPS) (directory_in workload.pools.items names).ranges
   pub claimed : All (λ heap. AreClaimed claims heap.plain.chunks) heaps
+
+-- the chunks of the heap with that index
+abbrev pub chunks_at : List HeapView → ℕ → List Chunk
+chunks_at heaps index = option_map_or (λ heap. heap.plain.chunks) (slice_get heaps index) []
+
+-- the external memory that is claimed is that of the heaps' chunks, in some order
+abbrev pub AreClaimsOf : List HeapView → List ExternalRange → Type 0
+AreClaimsOf heaps claims = IsPermutation (flat_map (λ index. map claim_of (chunks_at heaps index)) (range_with_len 0 MAX_HEAPS)) claims
 
 -- the directory says so of a heap with this index and this history: how it is called, and which chunks it has
 pub record SaysOf (pools : List PoolLine) (names : SharedNames) (index : ℕ) (history : List Entry) : Type 0 where

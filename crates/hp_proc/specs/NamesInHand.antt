@@ -16,10 +16,10 @@ use Rattle.hp_heap.specs.declared.entry.Entry.{Entry}
 use Rattle.hp_proc.specs.Doing.{Doing}
 use Rattle.hp_proc.specs.ExternalAnswers.{IsHeapMeant}
 use Rattle.hp_proc.specs.Heaps.{sockets_of}
-use Rattle.hp_proc.specs.LineInHall.{DoesHeld, DoesHere, DoesOnceHere, HaltsHeld, HaltsHere, HoldsIn, IsReadyBut}
+use Rattle.hp_proc.specs.LineInHall.{DoesHeld, DoesHere, DoesOnceHere, HaltsHeld, HaltsHere, IsReadyBut, KeepsHeld}
 use Rattle.hp_proc.specs.NamesOfLines.{ChangesNames}
 use Rattle.hp_proc.specs.ParticipantView.{ParticipantView, with_calls}
-use Rattle.hp_proc.specs.Progress.{AreOnce}
+use Rattle.hp_proc.specs.Progress.{AreOnce, with_hand}
 use Rattle.hp_script.specs.declared.line.Act.{Act}
 use Rattle.hp_serve.specs.Party.{IsSameParty}
 use Rattle.hp_zone.specs.Directory.{PlainDirectory}
@@ -47,14 +47,17 @@ pub record IsReadyNamed (me : ℕ) (doer : ParticipantView) (names : NamesView) 
   pub agrees : AgreeWith (state.part me) names
   pub sockets : names.heaps.sockets ≡ sockets_of doer.context.pools
 
--- it has the names and a heap in hand; they agree but for what they say of that heap and of its memory
-pub record HoldsNamed (me : ℕ) (doer : ParticipantView) (names : NamesView) (heap : HeapView) (state : HallState) : Type 0 where
-  pub holds : HoldsIn me doer heap state
+-- its entries in the heaps, with those of the heap in its hand
+abbrev pub entries_with : ℕ → HeapView → HallState → ℕ → List Entry
+entries_with me heap state index = (with_hand me heap (state.part me) index).entries
+
+-- beside a heap it has the names in hand, as they are by now; they agree but for what they say of that heap and of its memory
+pub record HasNamesBeside (me : ℕ) (doer : ParticipantView) (names : NamesView) (heap : HeapView) (state : HallState) : Type 0 where
   pub told : has_names (state.done me) ≡ true
   pub was : NamesView
   pub taken : state.taken NAMES_SLOT ≡ Some (Names was)
   pub sound : IsSoundKept (Names names)
-  pub goes_on : GivesNames (entries_in me state) was names
+  pub goes_on : GivesNames (entries_with me heap state) was names
   pub agrees : AgreeWith (with_naming heap (state.part me)) names
   pub sockets : names.heaps.sockets ≡ sockets_of doer.context.pools
 
@@ -122,14 +125,10 @@ pub record HaltsNamedHeld (me : ℕ) (old new : ParticipantView) (before after :
   pub halts : HaltsHeld me old new heap heap' from to doing
   pub names : ChangesNames before after halts.trace
 
--- it did something with the names and a heap in hand, and has them in hand still; it is the same one of the same workload, and nobody else did
--- anything
+-- it did something with the names and a heap in hand, and has both in hand still; nobody else did anything
 pub record KeepsNamed (me : ℕ) (old new : ParticipantView) (names : NamesView) (heap heap' : HeapView) (from to : HallState) : Type 0 where
-  pub holds : HoldsNamed me new names heap' to
-  pub index : heap'.plain.index ≡ heap.plain.index
-  pub its_socket : heap'.plain.serves ≡ heap.plain.serves
-  pub same : IsSameParty old.party new.party
-  pub pools : new.context.pools ≡ old.context.pools
+  pub held : KeepsHeld me old new heap heap' from to
+  pub beside : HasNamesBeside me new names heap' to
   pub others : OthersStay me from to
 
 -- nothing changed

@@ -79,13 +79,15 @@ changes_in names = map (λ entry. (entry.0, OfZones entry.1)) (enumerate_from 0 
     ++ map (λ entry. (entry.0, OfHeaps entry.1)) (enumerate_from 0 names.heaps)
 
 -- the changes of the names are those that the participants made and no others, each at its place in its log, so that no change stands for
--- those of two lines; each could come after those before it, so that a socket number is given once; and whatever stood there so far, each
--- socket has its heap
+-- those of two lines; and whatever stood there so far, each socket has its heap
 pub record AreChangesOf (workload : Workload) (did : ℕ → List Done) (names : SharedNames) : Type 0 where
   pub made : IsPermutation (changes_made workload.participants did) (changes_in names)
+  pub sockets : (front : ℕ) → HasSocketHeaps (sockets_of workload.pools.items)
+      (directory_at (sockets_of workload.pools.items) names.heaps front)
+
+-- each change could come after those before it, so that a socket number is given once
+pub record ComeInOrder (workload : Workload) (names : SharedNames) : Type 0 where
   pub heaps : (place : ℕ) (change : NameChange) → slice_get names.heaps place ≡ Some change
       → MayCome (directory_at (sockets_of workload.pools.items) names.heaps place) change
   pub zones : (place : ℕ) (change : ZoneChange) → slice_get names.zones place ≡ Some change
       → MayComeTo (memzones.zones_at names.zones place) change
-  pub sockets : (front : ℕ) → HasSocketHeaps (sockets_of workload.pools.items)
-      (directory_at (sockets_of workload.pools.items) names.heaps front)

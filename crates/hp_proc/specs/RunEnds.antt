@@ -8,11 +8,10 @@ use Rattle.hp_maps.specs.declared.table.Table.{Table}
 use Rattle.hp_script.specs.declared.workload.Workload.{Workload}
 use Rattle.hp_segs.specs.SegsView.{SegsView}
 use Rattle.hp_proc.specs.AwaitedNames.{AreAwaitedFor}
-use Rattle.hp_proc.specs.ClaimedMemory.{claims_in}
 use Rattle.hp_proc.specs.Doing.{Done}
 use Rattle.hp_proc.specs.Handed.{AreHanded}
 use Rattle.hp_proc.specs.LinesDone.{Course, courses_of, trace_of}
-use Rattle.hp_proc.specs.NamesAtEnd.{AreHandedTogether, AreZonesOf, IsDirectoryOf, StandsNext}
+use Rattle.hp_proc.specs.NamesAtEnd.{AreClaimsOf, AreZonesOf, IsDirectoryOf}
 use Rattle.hp_proc.specs.NamesLog.{AreChangesOf}
 use Rattle.hp_proc.specs.SharedNames.{SharedNames}
 
@@ -29,19 +28,16 @@ pub record HasAttached (heaps : List HeapView) (segs : SegsView) (who : ℕ) (ta
 -- how a run ends with its names
 pub record EndsWithNames (workload : Workload) (courses : List Course) (names : SharedNames) (heaps : List HeapView) (segs : SegsView)
     (tables : List Table) : Type 0 where
-  -- the names' changes are those of the lines and no others, each of which could come; there are all heaps; the directory is that of their names
-  -- and chunks, the memzones are those of their elements, and the segment value has exactly the external memory that the directory leaves
-  -- claimed
+  -- the names' changes are those of the lines and no others; there are all heaps; the directory is that of their names and chunks, the memzones
+  -- are those of their elements, and the segment value has exactly the external memory of their chunks
   pub changes : AreChangesOf workload (did_of courses) names
   pub count : length heaps ≡ MAX_HEAPS
   pub directory : IsDirectoryOf workload names segs.ranges heaps
   pub zones : AreZonesOf names heaps
-  pub claimed : segs.ranges ≡ claims_in workload.pools.items names
-  -- what a participant is handed of the names and of the heaps never falls from line to line, and holds what it did before;
-  -- names and a heap's state that a line is handed agree, and its call of the heap stands next; and what was awaited stands first
+  pub claimed : AreClaimsOf heaps segs.ranges
+  -- what a participant is handed of the names and of the heaps never falls from line to line, and holds what it did before; and what was
+  -- awaited stands first
   pub handed : (who : ℕ) → AreHanded names heaps who (did_of courses who)
-  pub together : All (AreHandedTogether workload.pools.items) courses
-  pub next : StandsNext heaps courses
   pub awaited_for : AreAwaitedFor courses heaps
   -- each participant has attached what has its mark
   pub attached : (who : ℕ) (table : Table) → slice_get tables who ≡ Some table → HasAttached heaps segs who table

@@ -70,7 +70,7 @@ pub record IsHeardEnd (workload : Workload) (answers : List Answer) (heaps : Lis
     (watchers : List (List Listener)) (names : NamesView) : Type 0 where
   pub end : IsSoloEnd workload answers heaps segs tables
   pub names_end : EndsWithNames workload end.end.courses (shared_of names) heaps segs tables
-  pub in_order : AreHandedInOrder workload end.end.courses (shared_of names)
+  pub in_order : AreHandedInOrder workload end.end.courses (shared_of names) heaps
   pub notices : NoticesAreHeard workload.plan.items end.end.courses segs.asks
   pub drops : LosesNothing workload.plan.items → DropsComeFirst workload.participants segs.log segs.asks end.end.courses
   pub shown : AreShown segs.log segs.asks end.end.courses
@@ -122,7 +122,7 @@ pub record IsRunEnd (workload : Workload) (mappers : List (Option (List FailingC
 pub record IsSoloRunEnd (workload : Workload) (mappers : List (Option (List FailingCall))) (answers : List Answer) (heaps : List HeapView)
     (segs : SegsView) (tables : List Table) (watchers : List (List Listener)) (names : NamesView) : Type 0 where
   pub run : IsRunEnd workload mappers answers heaps segs tables watchers names
-  pub in_order : AreHandedInOrder workload run.end.courses (shared_of names)
+  pub in_order : AreHandedInOrder workload run.end.courses (shared_of names) heaps
   pub alone : OneThreadLeaves run.end.courses heaps segs
   pub timeouts : TimeoutsArePlanned workload segs.asks
   pub all_caught_up : LosesNothing workload.plan.items → AllCaughtUp segs tables

@@ -11,7 +11,6 @@ pub mod SoloTurns
 pub mod SoloQuiet
 pub mod SoloLooks
 pub mod SoloRises
-pub mod SoloUnmarked
 pub mod SoloWaits
 pub mod SoloEnds
 pub mod SoloDrained

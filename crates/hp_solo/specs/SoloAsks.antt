@@ -10,17 +10,16 @@ use Rattle.hp_heap.specs.PlainHeap.{PlainHeap}
 use Rattle.hp_serve.specs.Asking.{HasSettledAsks, IsCutFrom}
 use Rattle.hp_serve.specs.Party.{Party}
 use Rattle.hp_serve.specs.Tied.{nothing_yet}
-use Rattle.hp_solo.specs.Solo.{MayWait, SoloView, marked_at}
+use Rattle.hp_solo.specs.Solo.{MayWait, SoloView}
 
--- a hall of two as it opens where nobody was armed: all values are there, nobody has acknowledged a record, both are in the roster and have
--- no mark on a chunk, and heap 0 takes the pages of a socket
+-- a hall of two as it opens where nobody was armed: all values are there, nobody has acknowledged a record, both are in the roster, and
+-- heap 0 takes the pages of a socket
 pub record IsOpening (hall : HallView) : Type 0 where
   pub two : length hall.owns ≡ 2
   pub home : AreHome hall
   pub nothing_yet : (who : ℕ) → own_at hall who ≡ nothing_yet
   pub joined : (who : ℕ) → who < 2 → joined_in hall who ≡ true
   pub unarmed : (who heap : ℕ) → (part_in hall who heap).armed ≡ None
-  pub unmarked : (who heap : ℕ) → marked_at hall who heap ≡ []
   pub serves : (who : ℕ) → IsSome (part_in hall who 0).serves
 
 -- one that was never armed may take heap 0, to ask for pages

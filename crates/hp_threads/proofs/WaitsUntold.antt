@@ -138,6 +138,7 @@ acts_untold (Acts.holds_names held doer after taken given trace steps inner chan
     (tt, untold_both steps (Gives NAMES_SLOT (Names given) ∷ []) (acts_untold inner) (tt, tt))
 acts_untold (Acts.sees_heap doer heap pen few) = (tt, tt)
 acts_untold (Acts.looks_at_segs doer heap taken) = (tt, (tt, tt))
+acts_untold (Acts.plans_range doer heap addr len page taken) = (tt, (tt, tt))
 acts_untold (Acts.claims doer heap chunk taken plan) = (tt, (tt, tt))
 acts_untold (Acts.releases doer heap chunk taken) = (tt, (tt, tt))
 acts_untold (Acts.maps_chunk doer heap chunk after ended maps) = tt

@@ -201,7 +201,7 @@ module _ (workload : Workload) (me : ℕ) (courses : List Course) (first old new
               ended = ap doer_at does.ended;
               left = does.left;
               added = line_added;
-              names = it.names;
+              names = does.names;
               awaited = does.awaited;
             }));
         done = done_still workload more me new new is.others.later is.part (same_party new.party) refl refl line_done;

@@ -1,5 +1,5 @@
 -- A hall of two in one thread as tests open it, and one that comes to ask for pages for heap 0 there, and to give them up.
-use Rattle.std.proofs.Common.{◌≡◌, ◌≢◌, ◌∙◌, ◌==◌, ◌&&◌, ℕ, ◌<◌, Bool, true, false, List, [], ◌∷◌, length, replicate, Option, Some, None, refl, sym, ap, subst, ⊎_elim, arith, IfSome, IsSome}
+use Rattle.std.proofs.Common.{◌≡◌, ◌≢◌, ◌∙◌, ◌==◌, ◌&&◌, ℕ, zero, suc, ◌<◌, Bool, true, false, List, [], ◌∷◌, length, replicate, Option, Some, None, refl, sym, ap, subst, ⊎_elim, arith, IfSome, IsSome}
 use Rattle.std.specs.Prelude.{MatchOption}
 use Rattle.std.specs.List.{slice_get}
 use Rattle.std.specs.Option.{option_and_then}
@@ -25,7 +25,7 @@ use Rattle.hp_segs.specs.SegsView.{SegsView, is_member}
 use Rattle.hp_segs.specs.declared.ask.Ask.{Ask}
 use Rattle.hp_segs.specs.declared.outcome.AskLog.{AskLog}
 use Rattle.hp_plain.specs.HallSteps.{slots_of}
-use Rattle.hp_plain.specs.HallView.{HallView, is_joined, joined_in, own_at, part_in, serves_in}
+use Rattle.hp_plain.specs.HallView.{HallView, is_joined, joined_in, marks_in, own_at, part_in, serves_in}
 use Rattle.hp_hall.specs.HallCalls.{HasTaken}
 use Rattle.hp_hall.specs.HallState.{HallState}
 use Rattle.hp_hall.specs.Holding.{HasPages, HeapPart, IsAsPart, IsHeldWith, IsPartTaken, IsTakenAs, StandsFor}
@@ -45,7 +45,6 @@ use Rattle.hp_serve.specs.Party.{Party}
 use Rattle.hp_serve.specs.Tied.{nothing_yet}
 use Rattle.hp_proc.proofs.Unarmed.{all_alike, unarmed_new}
 use Rattle.hp_serve.specs.InHall.{CanServe}
-use Rattle.hp_solo.proofs.SoloUnmarked.{opened_unmarked}
 use Rattle.hp_solo.specs.Solo.{marked_at}
 use Rattle.hp_solo.specs.SoloAsks.{IsInHand, IsOpening, MayBeginToAsk, MayGiveUp}
 use Rattle.test_solo.specs.Asking.{MayAsk}
@@ -66,6 +65,17 @@ opening_unmarked : (who : ℕ) (heap : HeapView) (index : ℕ) (serves : Option 
 unfolding marked_by
 opening_unmarked who heap index serves is = ap (marked_by who) is
 
+-- nor is one marked in a hall that opens with such
+opened_unmarked : (segs : SegsView) (names : NamesView) (who : ℕ) (heaps : List HeldHeap) (number : ℕ)
+    → ((place : ℕ) (heap : HeapView) → slice_get (heaps_in heaps) place ≡ Some heap → marked_by who heap.plain ≡ [])
+    → marks_in who (slice_get (slots_of heaps segs names) number) ≡ []
+opened_unmarked segs names who [] zero none = refl
+opened_unmarked segs names who [] (suc zero) none = refl
+opened_unmarked segs names who [] (suc (suc number)) none = refl
+opened_unmarked segs names who (heap ∷ heaps) zero none = none 0 heap.heap refl
+opened_unmarked segs names who (heap ∷ heaps) (suc number) none =
+    opened_unmarked segs names who heaps number (λ place one at. none (suc place) one at)
+
 -- of two of whom nobody is absent both are in the roster at first
 present_two : (who : ℕ) → who < 2 → is_member (opening_roster 2 0) who ≡ true
 present_two who below =
@@ -76,9 +86,8 @@ present_two who below =
 pub opens : (heaps : List HeapView) (segs : SegsView) (names : NamesView) (hall : HallView) → OpensWith 2 heaps segs names hall
     → length heaps ≡ MAX_HEAPS → segs.armed ≡ replicate 16 None → segs.roster ≡ opening_roster 2 0
     → ((heap : HeapView) → slice_get heaps 0 ≡ Some heap → IsSome heap.plain.serves)
-    → ((place : ℕ) (heap : HeapView) → slice_get heaps place ≡ Some heap → (serves : Option ℕ) × (heap.plain ≡ opening_heap place serves))
     → IsOpening hall
-opens heaps segs names hall opened count armed roster serves plain =
+opens heaps segs names hall opened count armed roster serves =
     let many : length opened.held ≡ MAX_HEAPS =
     sym (length-map opened.held (λ (one : HeldHeap). one.heap)) ∙ (ap length opened.heaps_are ∙ count) in
     record {
@@ -93,16 +102,21 @@ opens heaps segs names hall opened count armed roster serves plain =
           ap (λ (h : HallView). (part_in h who heap).armed) opened.hall_is
           ∙ ap (option_and_then (λ (s : SegsView). armed_ask s who)) (opened_segs segs names opened.held MAX_HEAPS many)
           ∙ unarmed_new segs who armed;
-      unmarked = λ who heap.
-          ap (λ (h : HallView). marked_at h who heap) opened.hall_is
-          ∙ opened_unmarked segs names who opened.held heap (λ place one there.
-          let is = plain place one (ap (λ (l : List HeapView). slice_get l place) (sym opened.heaps_are) ∙ there) in
-          opening_unmarked who one place is.0 is.1);
       serves = λ who.
           subst (λ (h : HallView). IsSome (part_in h who 0).serves) (sym opened.hall_is)
           (first_serves opened.held segs names (omega (arith, many)) (λ heap there.
           serves heap (ap (λ (l : List HeapView). slice_get l 0) (sym opened.heaps_are) ∙ there)));
     }
+
+-- and nobody has a mark there
+pub opens_unmarked : (heaps : List HeapView) (segs : SegsView) (names : NamesView) (hall : HallView) → OpensWith 2 heaps segs names hall
+    → ((place : ℕ) (heap : HeapView) → slice_get heaps place ≡ Some heap → (serves : Option ℕ) × (heap.plain ≡ opening_heap place serves))
+    → (who heap : ℕ) → marked_at hall who heap ≡ []
+opens_unmarked heaps segs names hall opened plain who heap =
+    ap (λ (h : HallView). marked_at h who heap) opened.hall_is
+    ∙ opened_unmarked segs names who opened.held heap (λ place one there.
+    let is = plain place one (ap (λ (l : List HeapView). slice_get l place) (sym opened.heaps_are) ∙ there) in
+    opening_unmarked who one place is.0 is.1)
 
 -- there each may begin to ask
 pub may_begin : (hall : HallView) (who : ℕ) → IsOpening hall → MayBeginToAsk hall who

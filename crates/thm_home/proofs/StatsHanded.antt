@@ -7,9 +7,8 @@ use Rattle.std.proofs.lemmas.List.Elements.{All-cons, All-nil}
 use Rattle.hp_chair.specs.Publishing.{CountsRise}
 use Rattle.hp_chair.specs.Steps.{pairs_in}
 use Rattle.hp_hall.specs.HeapPairs.{ArePairsOf}
-use Rattle.hp_hall.specs.Mail.{MailStep, Notes}
-use Rattle.hp_hall.specs.declared.note.Note.TheVariants.{ReadStats}
-use Rattle.hp_heap.specs.History.{HeapView, entries_of, opening_of, replay}
+use Rattle.hp_hall.specs.Mail.{MailStep}
+use Rattle.hp_heap.specs.History.{HeapView, opening_of, replay}
 use Rattle.hp_heap.specs.PlainHeap.{PlainHeap}
 use Rattle.hp_heap.specs.Statistics.{statistics_of}
 use Rattle.hp_heap.specs.declared.entry.Entry.{Entry}

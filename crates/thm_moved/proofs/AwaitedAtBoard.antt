@@ -4,13 +4,15 @@ use Rattle.std.specs.List.{All, slice_get}
 use Rattle.std.specs.Option.{option_map}
 use Rattle.std.specs.Prelude.{Contains, unwrap_or}
 use Rattle.std.proofs.lemmas.Bool.{cases_lt}
-use Rattle.std.proofs.lemmas.List.{drop_at, take_all}
+use Rattle.std.proofs.lemmas.List.{drop_at, take-append-le, take_all}
 use Rattle.std.proofs.lemmas.Option.{slice_get_within}
 use Rattle.hp_base.specs.declared.limits.TheConstants.{MAX_HEAPS}
 use Rattle.hp_board.proofs.Histories.{entries_of-append}
 use Rattle.hp_board.specs.Closing.{history_at}
 use Rattle.hp_board.specs.Lines.{IsAwaited, StandsBefore, made_by_then}
 use Rattle.hp_board.specs.SeatView.{SeatView}
+use Rattle.hp_board.specs.declared.view.LinesDone.{LinesDone}
+use Rattle.hp_board.specs.declared.view.Mine.{Mine}
 use Rattle.hp_board.specs.Views.{BeginsWith, values_of}
 use Rattle.hp_heap.specs.History.{HeapView, entries_of}
 use Rattle.hp_heap.specs.declared.entry.Entry.{Entry}
@@ -31,7 +33,7 @@ use Rattle.thm_together.specs.CameHome.{HaveAwaited}
 use Rattle.thm_moved.proofs.CameToBoard.{came, its_seat}
 use Rattle.thm_moved.proofs.ClosedHeaps.{at_a_place}
 use Rattle.thm_moved.proofs.OwnEntries.{AreAbove, AreWithin, IsAbove, IsWithin, all_above, all_within, own_above, own_within, stands_after, stands_before}
-use Rattle.thm_moved.specs.AtBoard.{AllCameToTheirSeats, HasLooked}
+use Rattle.thm_moved.specs.AtBoard.{AllCameToTheirSeats, HasLooked, HasTold}
 
 -- THE CALLS OF FIRST LINES
 
@@ -67,7 +69,7 @@ entries_front : (who heap : ℕ) (calls front : List OwnCall) (begins : BeginsWi
     → entries_for who heap 1 calls ≡ entries_for who heap 1 front ++ entries_for who heap (1 + length front) begins.0
 entries_front who heap calls front (rest, is) = ap (entries_for who heap 1) is ∙ entries_go_on who heap 1 front rest
 
-begins_on : {A : Type 0} (old mid new : List A) → BeginsWith mid old → BeginsWith new mid → BeginsWith new old
+pub begins_on : {A : Type 0} (old mid new : List A) → BeginsWith mid old → BeginsWith new mid → BeginsWith new old
 begins_on old mid new (more, first) (rest, then) =
     (more ++ rest, then ∙ (ap (λ (l : List _). l ++ rest) first ∙ append_assoc old more rest))
 
@@ -98,8 +100,27 @@ nothing_stands history other who calls behind none early late entry next at_earl
     let never = stands_before other calls early [] history entry above at_early first few in
     absurd (omega (arith, never))
 
+-- of the first lines that were told to be done, fewer are their front
+first_are : (who : ℕ) (lines : ℕ) (courses : List Course) (mine : Mine) (mark : LinesDone) (told : HasTold who courses mine mark)
+    → lines ≤ mark.lines → take lines courses ≡ take lines told.early
+first_are who lines courses mine mark told few =
+    let many = told.many in
+    ap (take lines) told.are ∙ take-append-le lines told.early told.late (omega (arith, few, many))
+
+-- what begins with what was made when lines were told, begins with what fewer lines made
+pub first_made : (who heap lines : ℕ) (courses : List Course) (mine : Mine) (mark : LinesDone) → HasTold who courses mine mark → lines ≤ mark.lines
+    → (whole : List Entry) → BeginsWith whole (made_by_then heap mark mine)
+    → BeginsWith whole (entries_for who heap 1 (calls_in (trace_of (take lines courses))))
+first_made who heap lines courses mine mark told few whole begins =
+    let front = calls_whole lines told.early in
+    let calls = calls_in (trace_of (take lines told.early)) in
+    subst (λ (own : List Course). BeginsWith whole (entries_for who heap 1 (calls_in (trace_of own)))) (sym (first_are who lines courses mine mark told few))
+    (begins_on (entries_for who heap 1 calls) (entries_for who heap 1 (calls_in (trace_of told.early))) whole
+    (entries_for who heap (1 + length calls) front.0, entries_front who heap (calls_in (trace_of told.early)) calls front)
+    (subst (BeginsWith whole) (told.made heap) begins))
+
 -- what another made after its first lines comes after a front that has what it made in these
-behind_front : (other heap lines : ℕ) (courses : List Course) (front back : List Entry)
+pub behind_front : (other heap lines : ℕ) (courses : List Course) (front back : List Entry)
     → entries_of other (front ++ back) ≡ entries_for other heap 1 (calls_in (trace_of courses))
     → BeginsWith (entries_of other front) (entries_for other heap 1 (calls_in (trace_of (take lines courses))))
     → AreAbove other (length (calls_in (trace_of (take lines courses)))) back
@@ -153,17 +174,10 @@ module _ (workload : Workload) (answers : List Answer) (heaps : List HeapView) (
         ap (entries_of other) (sym split)
         ∙ (ap (λ (n : ℕ). entries_of n view.history) (sym came_two.whose)
         ∙ ((all.closed.calls its its_among).own heap view at ∙ came_two.made heap)) in
-        let few : lines ≤ is.mark.lines = omega (arith, looked.enough, is.lines) in
-        let front = calls_front lines is.mark.lines (all.courses other) few in
         let stood : BeginsWith (entries_of other before.front) (entries_for other heap 1 (calls_in (trace_of (take lines (all.courses other))))) =
-        begins_on (entries_for other heap 1 (calls_in (trace_of (take lines (all.courses other)))))
-        (entries_for other heap 1 (calls_in (trace_of (take is.mark.lines (all.courses other))))) (entries_of other before.front)
-        (entries_for other heap (1 + length (calls_in (trace_of (take lines (all.courses other))))) front.0,
-        entries_front other heap (calls_in (trace_of (take is.mark.lines (all.courses other))))
-        (calls_in (trace_of (take lines (all.courses other)))) front)
-        (begins_on (entries_for other heap 1 (calls_in (trace_of (take is.mark.lines (all.courses other)))))
-        (made_by_then heap is.mark its.mine) (entries_of other before.front) (came_two.told is.mark is.told heap)
-        (subst (λ (n : ℕ). BeginsWith (entries_of n before.front) (made_by_then heap is.mark its.mine)) came_two.whose before.stood)) in
+        first_made other heap lines (all.courses other) its.mine is.mark (came_two.told is.mark is.told) (omega (arith, looked.enough, is.lines))
+        (entries_of other before.front)
+        (subst (λ (n : ℕ). BeginsWith (entries_of n before.front) (made_by_then heap is.mark its.mine)) came_two.whose before.stood) in
         let calls = calls_in (trace_of (take place (all.courses who))) in
         let made : AreWithin who (length calls) (values_of heap (take looked.awaited.entries mine.mine.made)) =
         subst (AreWithin who (length calls)) (sym (looked.made heap)) (own_within who heap (length calls) 1 calls (omega arith)) in

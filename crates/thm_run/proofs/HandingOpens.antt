@@ -1,6 +1,8 @@
 -- Before the first line nothing was judged, and nothing was handed.
 use Rattle.std.proofs.Common.{◌≡◌, List, [], ◌∷◌, ◌++◌}
+use Rattle.std.proofs.lemmas.List.Elements.{All-nil}
 use Rattle.hp_proc.specs.LinesDone.{Course}
+use Rattle.hp_proc.specs.NamesAtEnd.{AreHandedTogether}
 use Rattle.thm_run.specs.Handing.{CountedOpen, JudgedOpen}
 
 no_moment : (earlier : List Course) (course : Course) (later : List Course) → [] ≡ earlier ++ course ∷ later → ⊥
@@ -14,4 +16,7 @@ judged_open workload segs = record {
 }
 
 pub counted_open : CountedOpen
-counted_open workload so_far who done moment = absurd (no_moment moment.earlier moment.course moment.later moment.lines)
+counted_open workload = record {
+  handed = λ so_far who done moment. absurd (no_moment moment.earlier moment.course moment.later moment.lines);
+  together = All-nil (AreHandedTogether workload.pools.items);
+}

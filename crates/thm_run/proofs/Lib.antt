@@ -33,6 +33,7 @@ pub mod Made
 pub mod Members
 pub mod MarksAlong
 pub mod NamesAlong
+pub mod NamesEnd
 pub mod SlotAlong
 pub mod Picked
 pub mod Registrations

@@ -89,7 +89,7 @@ module _ (index : ℕ) where
         → whole ≡ before ++ course ∷ later → course.trace ≡ first ++ StatsRead index counted ∷ rest
         → counted ≡ counted_by workload index (before ++ at course first ∷ [])
     read_there before course later first rest counted lines trace =
-        are (before ++ at course first ∷ []) course.line.participant (StatsRead index counted)
+        are.handed (before ++ at course first ∷ []) course.line.participant (StatsRead index counted)
         (record {
           earlier = before;
           course = course;

@@ -36,9 +36,6 @@ use Rattle.hp_serve.specs.Ending.{LeavesTable}
 use Rattle.hp_proc.specs.Courses.{Standing}
 use Rattle.hp_proc.specs.Denying.{denials_of}
 use Rattle.hp_proc.specs.Ends.{IsSoloEnd}
-use Rattle.hp_proc.specs.Handing.{shared_of}
-use Rattle.hp_proc.specs.OneThread.{AreHandedInOrder}
-use Rattle.hp_proc.specs.RunEnds.{EndsWithNames}
 use Rattle.hp_proc.specs.LinesDone.{Course}
 use Rattle.hp_serve.specs.Party.{IsSameParty, Party, opening_party}
 use Rattle.hp_proc.specs.OwnChunks.{AreMarkedAs}
@@ -172,13 +169,6 @@ EndsSo = (workload : Workload) (courses : List Course) (answers : List Answer) (
     (heaps : List HeapView) (segs : SegsView) (tables : List Table) → IsGiven workload → SoFar workload courses parties hall
     → IsAtEnd workload courses answers parties hall heaps segs tables
     → (end : IsSoloEnd workload answers heaps segs tables) × (end.end.courses ≡ courses)
-
--- and the run has come to what is said of its names, of external memory and of who has attached it; each line was handed what those before it leave
-abbrev pub NamesEndSo : Type 0
-NamesEndSo = (workload : Workload) (courses : List Course) (answers : List Answer) (parties : List Party) (hall : HallView)
-    (heaps : List HeapView) (segs : SegsView) (tables : List Table) → IsGiven workload → SoFar workload courses parties hall
-    → (end : IsAtEnd workload courses answers parties hall heaps segs tables)
-    → EndsWithNames workload courses (shared_of end.names) heaps segs tables × AreHandedInOrder workload courses (shared_of end.names)
 
 -- an outcome says that a mapping of that participant failed, at that call of its mapper
 pub record IsFailedMapping (participant call : ℕ) (entry : AskLog) : Type 0 where

@@ -15,8 +15,11 @@ use Rattle.hp_segs.specs.SegsView.{SegsView}
 use Rattle.hp_serve.specs.Party.{Party}
 use Rattle.hp_proc.specs.Doing.{Done}
 use Rattle.hp_proc.specs.Handed.{AreStatsHanded}
+use Rattle.hp_proc.specs.Handing.{shared_of}
 use Rattle.hp_proc.specs.LinesDone.{Course, courses_of, opening_standing, trace_of}
-use Rattle.hp_proc.specs.OneThread.{IsLeftBy, IsMoment, WasAllowed, WasDenied}
+use Rattle.hp_proc.specs.NamesAtEnd.{AreHandedTogether}
+use Rattle.hp_proc.specs.OneThread.{AreHandedInOrder, IsLeftBy, IsMoment, WasAllowed, WasDenied}
+use Rattle.hp_proc.specs.RunEnds.{EndsWithNames}
 use Rattle.hp_proc.specs.WatchedBytes.{AreWatchersOf, IsRegisteredWithGrants}
 use Rattle.thm_run.specs.EndLaws.{GoesBy, IsAtEnd, IsGiven}
 use Rattle.thm_run.specs.SoFar.{SoFar}
@@ -54,10 +57,11 @@ pub record AreJudged (workload : Workload) (courses : List Course) (segs : SegsV
   pub denied : (so_far : List Course) (who : ℕ) (done : Done) → IsMoment courses so_far who done
       → WasDenied workload segs so_far who done
 
--- and what a line was handed of names, of an external heap and of statistics is what the lines before it leave
-abbrev pub AreOfLinesBefore : Workload → List Course → Type 0
-AreOfLinesBefore workload courses = (so_far : List Course) (who : ℕ) (done : Done) → IsMoment courses so_far who done
-    → IsLeftBy workload so_far done
+-- and what a line was handed of names, of an external heap and of statistics is what the lines before it leave; names and a heap's state that
+-- a line is handed together agree
+pub record AreOfLinesBefore (workload : Workload) (courses : List Course) : Type 0 where
+  pub handed : (so_far : List Course) (who : ℕ) (done : Done) → IsMoment courses so_far who done → IsLeftBy workload so_far done
+  pub together : All (AreHandedTogether workload.pools.items) courses
 
 -- before the first line it is so
 abbrev pub JudgedOpen : Type 0
@@ -93,6 +97,14 @@ abbrev pub StatisticsEndSo : Type 0
 StatisticsEndSo = (workload : Workload) (courses : List Course) (answers : List Answer) (parties : List Party) (hall : HallView)
     (heaps : List HeapView) (segs : SegsView) (tables : List Table) → IsGiven workload → SoFar workload courses parties hall
     → IsAtEnd workload courses answers parties hall heaps segs tables → AreOfLinesBefore workload courses → HaveStatistics courses heaps
+
+-- after the last line the run has come to what is said of its names, of external memory and of who has attached it; and how lines that were handed what those before
+-- them leave had the names
+abbrev pub NamesEndSo : Type 0
+NamesEndSo = (workload : Workload) (courses : List Course) (answers : List Answer) (parties : List Party) (hall : HallView)
+    (heaps : List HeapView) (segs : SegsView) (tables : List Table) → IsGiven workload → SoFar workload courses parties hall
+    → (end : IsAtEnd workload courses answers parties hall heaps segs tables) → AreOfLinesBefore workload courses
+    → EndsWithNames workload courses (shared_of end.names) heaps segs tables × AreHandedInOrder workload courses (shared_of end.names) heaps
 
 -- participants leave these listeners at the end
 pub record LeaveListeners (parties : List Party) (watchers : List (List Listener)) : Type 0 where

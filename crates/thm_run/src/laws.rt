@@ -2,12 +2,12 @@
 ghost use Rattle.thm_run.specs.Apart.{ComeTogether};
 ghost use Rattle.thm_run.specs.ByRuns.{EndByRun, RunTogether};
 ghost use Rattle.thm_run.specs.Drops.{DropsGoOnByLine, DropsOpen, DropsRest};
-ghost use Rattle.thm_run.specs.EndLaws.{EndsSo, FailsByReason, FailsOnce, GoesOnByLine, NamesEndSo, OpensSoFar, RefusesByReason, RefusesOnce, RestsSoFar};
+ghost use Rattle.thm_run.specs.EndLaws.{EndsSo, FailsByReason, FailsOnce, GoesOnByLine, OpensSoFar, RefusesByReason, RefusesOnce, RestsSoFar};
 ghost use Rattle.thm_run.specs.Freed.{ShownGoOnByLine, ShownOpen, ShownRest};
 ghost use Rattle.thm_run.specs.Told.{CountedAtLast, NumbersByTold, ToldByPosts};
 ghost use Rattle.thm_run.specs.OwnHolds.{AnswersByHolds, HoldsGoOn, NoneByHolds, NoneGrowsForHeld, OutcomesByHolds, SeesByHolds, TurnsByHolds};
 ghost use Rattle.thm_run.specs.Watching.{WatchedSoFar};
-ghost use Rattle.thm_run.specs.Handing.{CountedGoesOnByLine, CountedOpen, GrantsEndSo, JudgedGoesOnByLine, JudgedOpen, JudgedRests, StatisticsEndSo, WatchersEndSo};
+ghost use Rattle.thm_run.specs.Handing.{CountedGoesOnByLine, CountedOpen, GrantsEndSo, JudgedGoesOnByLine, JudgedOpen, JudgedRests, NamesEndSo, StatisticsEndSo, WatchersEndSo};
 ghost use Rattle.thm_run.specs.OwnLines.{AnswersByTold, CallsByLines, HoldsByLines, LineInSeat, NoneElseGrowsForHeld, ServesInSeat, WayByLines};
 
 use hp_segs::log_law;

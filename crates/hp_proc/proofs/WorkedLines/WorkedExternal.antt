@@ -40,7 +40,8 @@ use Rattle.hp_proc.specs.ClaimedMemory.{claims_in, plan_in}
 use Rattle.hp_proc.specs.Doing.{Doing, Goes, Leads}
 use Rattle.hp_proc.specs.Doing.Done.{Called, ChunkMapped, HeapSeen, NamesChanged, NamesRead}
 use Rattle.hp_proc.specs.ExternalLines as external
-use Rattle.hp_proc.specs.ExternalLines.{OwnChunk, adding}
+use Rattle.hp_proc.specs.ExternalLines.{adding}
+use Rattle.hp_proc.specs.declared.own_chunk.OwnChunk.{OwnChunk}
 use Rattle.hp_proc.specs.SharedNames.{SharedNames, directory_in, heaps_in, meant_by, next_index, no_changes}
 use Rattle.hp_proc.specs.SharedNames.HeapMeant.{External, NoHeap}
 use Rattle.hp_proc.specs.SharedNames.NamesChange.{OfHeaps}

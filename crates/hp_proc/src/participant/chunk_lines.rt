@@ -184,6 +184,8 @@ impl<'p, M: Mapper, F: Decide + Copy + Drop> Participant<'p, M, F> {
         requires room { HasRoom 1 heap.old self.old }
         ensures left { LeavesNoted chunk.now self.old self.new heap.old heap.new }
     {
+        // What holds of all chunks is handed out with these.
+        heap.chunks();
         let caller = self.caller();
         let judged = self.judged.as_mut();
         judged
@@ -196,7 +198,6 @@ impl<'p, M: Mapper, F: Decide + Copy + Drop> Participant<'p, M, F> {
     // Leaves all chunks of the heap in its hand that it has attached, by rising address. Its chunks of earlier heaps it has left before.
     fn leave_held(&mut self, heap: &mut Heap)
         requires first { AreFirstOf heap.old.plain.index self.old.context.standing.chunks }
-        requires external { heap.old.plain.serves ≡ None }
         requires noted { AreMarkedAs heap.old.plain.index (marked_by self.old.party.me heap.old.plain) self.old.context.standing.chunks }
         requires room { HasRoom (length (chunks_of heap.old.plain.index self.old.context.standing.chunks)) heap.old self.old }
         ensures left { LeavesInHand (chunks_of heap.old.plain.index self.old.context.standing.chunks) self.old self.new heap.old heap.new }
@@ -206,9 +207,8 @@ impl<'p, M: Mapper, F: Decide + Copy + Drop> Participant<'p, M, F> {
             if chunk.heap != heap.index() {
                 return;
             }
-            // What holds of every heap and its chunks is handed out with these.
+            // What holds of every heap is handed out with this.
             heap.sound();
-            heap.chunks();
             self.leave_in(heap, &chunk);
         }
     }
@@ -220,7 +220,8 @@ impl<'p, M: Mapper, F: Decide + Copy + Drop> Participant<'p, M, F> {
         requires ready { IsReadyIn self.old.party.me self.old (H.state hall.old) }
         ensures does { OnOk result (DoesHere (index ∷ []) self.old.party.me self.old self.new (H.state hall.old) (H.state hall.new)
             (leaving_all self.old.context.standing.chunks) (leaving_all self.new.context.standing.chunks)) }
-        ensures left { OnOk result (self.new.context.standing.chunks ≡ chunks_beside index self.old.context.standing.chunks) }
+        ensures left { OnOk result (self.new.context.standing
+            ≡ record self.old.context.standing { chunks = chunks_beside index self.old.context.standing.chunks }) }
         ensures halts { OnErr result (HaltsHere (index ∷ []) self.old.party.me self.old self.new (H.state hall.old)
             (H.state hall.new) (leaving_all self.old.context.standing.chunks)) }
         ensures ready { IsReadyAgain self.old.party.me self.old self.new (H.state hall.new) }
@@ -239,7 +240,7 @@ impl<'p, M: Mapper, F: Decide + Copy + Drop> Participant<'p, M, F> {
         requires ready { (self.old.context.standing.chunks ≡ []) ⊎ IsReadyIn self.old.party.me self.old (H.state hall.old) }
         ensures does { OnOk result (DoesOnceHere self.old.party.me self.old self.new (H.state hall.old) (H.state hall.new)
             (leaving_all self.old.context.standing.chunks) (Doing.Ended gives.Done)) }
-        ensures left { OnOk result (self.new.context.standing.chunks ≡ []) }
+        ensures left { OnOk result (self.new.context.standing ≡ record self.old.context.standing { chunks = [] }) }
         ensures halts { OnErr result ((heaps : List ℕ) × AreOnce heaps × HaltsHere heaps self.old.party.me self.old self.new
             (H.state hall.old) (H.state hall.new) (leaving_all self.old.context.standing.chunks)) }
         ensures ready { IsReadyIn self.old.party.me self.old (H.state hall.old) → IsReadyAgain self.old.party.me self.old self.new (H.state hall.new) }

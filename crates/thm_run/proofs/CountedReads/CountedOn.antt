@@ -5,7 +5,7 @@ use Rattle.std.specs.Option.{option_map}
 use Rattle.std.specs.Prelude.{Contains, slice_get}
 use Rattle.hp_base.specs.declared.limits.TheConstants.{MAX_HEAPS}
 use Rattle.std.proofs.lemmas.Option.{same_Some, slice_get-map}
-use Rattle.hp_hall.specs.Mail.{steps_of}
+use Rattle.hp_hall.specs.Mail.{MailStep, steps_of}
 use Rattle.hp_hall.specs.Values.{Fits, history_of}
 use Rattle.hp_hall.specs.declared.kept.Kept.{Kept}
 use Rattle.hp_hall.specs.declared.kept.Kept.TheVariants.{Heap, Names, Segments}
@@ -40,7 +40,7 @@ use Rattle.hp_stats.specs.declared.stat_pair.StatPair.{StatPair}
 use Rattle.thm_run.proofs.CountedReads.HandedNames.{read_first}
 use Rattle.thm_run.proofs.CountedReads.HeapsSeen.{acts_seen, among_at, seen_held}
 use Rattle.thm_run.proofs.CountedReads.HomeHeaps.{home_replay}
-use Rattle.thm_run.proofs.CountedReads.NewestRead.{IsBare, IsReadOf, IsReadSo, PublishNothing, acts_bare, acts_read, all_at, all_read, first_nil, gives_publish}
+use Rattle.thm_run.proofs.CountedReads.NewestRead.{IsBare, IsNoPair, IsReadOf, IsReadSo, PublishNothing, acts_bare, acts_read, all_at, all_both, all_read, all_split, first_nil, gives_publish}
 use Rattle.thm_run.proofs.CountedReads.ReadlessLines.{AsksNoStats, IsReadless, line_readless}
 use Rattle.thm_run.proofs.GrownHeaps.GrownLines.{calls_made, history_append}
 use Rattle.thm_run.proofs.HeapGivers.{GiveNoHeap}
@@ -120,6 +120,13 @@ module _ (workload : Workload) (courses : List Course) (parties behind : List Pa
   abbrev newest : List StatPair
   newest = (told_of old).newest
 
+  -- the steps by which it tells that the line is done, and all its steps
+  abbrev tells : List MailStep
+  tells = tells_one_more line.participant (lines_at old line.participant)
+
+  own_steps : steps_of line.participant goes.course.steps ≡ goes.does.does.does.steps ++ tells
+  own_steps = steps_done old new goes.course line.participant (goes.does.does.does.steps ++ tells) goes.does.does.does.made
+
   module _ (held : goes.does.does.held ≡ []) where
     bare : IsBare goes.does.does.mid.hand its_trace goes.does.does.does.steps
     bare = acts_bare goes.does.does.does.acts held refl
@@ -130,8 +137,8 @@ module _ (workload : Workload) (courses : List Course) (parties behind : List Pa
         ⊎_elim
         (λ (own : who ≡ line.participant).
         subst PublishNothing
-        (sym (ap (λ (who : ℕ). steps_of who goes.course.steps) own
-        ∙ steps_done old new goes.course line.participant goes.does.does.does.steps goes.does.does.does.made)) bare.publishes)
+        (sym (ap (λ (who : ℕ). steps_of who goes.course.steps) own ∙ own_steps))
+        (all_both IsNoPair goes.does.does.does.steps tells bare.publishes (tt, (tt, tt))))
         (λ (none : GiveNoHeap (steps_of who goes.course.steps)). gives_publish (steps_of who goes.course.steps) none)
         (line_gives workload courses parties behind old new line answer given so goes who below)
 
@@ -139,10 +146,10 @@ module _ (workload : Workload) (courses : List Course) (parties behind : List Pa
     line_reads : AllByRecursion (IsReadSo newest) its_trace
     line_reads =
         acts_read newest goes.does.does.does.acts
-        (subst (AllByRecursion (IsReadOf newest))
-        (steps_done old new goes.course line.participant goes.does.does.does.steps goes.does.does.does.made)
+        (all_split (IsReadOf newest) goes.does.does.does.steps tells
+        (subst (AllByRecursion (IsReadOf newest)) own_steps
         (all_read (length old.owns) goes.course.steps (values_in old) (values_in new) (told_of old) (told_of new) goes.course.kept
-        goes.course.told nobody line.participant))
+        goes.course.told nobody line.participant))).0
 
     module _ (heap : ℕ) (counted : Counted) (first rest : List Done) (at_read : its_trace ≡ first ++ StatsRead heap counted ∷ rest) where
       its_read : IsReadSo newest (StatsRead heap counted)

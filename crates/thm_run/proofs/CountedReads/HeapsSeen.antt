@@ -20,6 +20,7 @@ use Rattle.hp_proc.specs.Courses.{OwnCall, calls_in}
 use Rattle.hp_proc.specs.Denying.{denials_of}
 use Rattle.hp_proc.specs.Doing.{Done}
 use Rattle.hp_proc.specs.Doing.Done.{HeapSeen, NamesRead}
+use Rattle.hp_proc.specs.Handing.{shared_of}
 use Rattle.hp_proc.specs.ParticipantView.{ParticipantView}
 use Rattle.hp_proc.specs.Progress.{AreOnce}
 use Rattle.hp_serve.specs.Attaching.{after_attaching}
@@ -36,35 +37,35 @@ abbrev IsUnseen : Done → Type 0
 IsUnseen (HeapSeen heap history) = ⊥
 IsUnseen _ = ⊤
 
-all_of : {X : Type 0} (P : X → Type 0) (xs : List X) (x : X) → AllByRecursion P xs → Contains xs x → P x
-all_of P [] x all among = absurd (Contains-none x among)
-all_of P (y ∷ xs) x all among = elim (Contains-cases y x xs among) [
+all_of : {X : Type 0} (P : X → Type 0) (xs : List X) (x : X) → Contains xs x → AllByRecursion P xs → P x
+all_of P [] x among all = absurd (Contains-none x among)
+all_of P (y ∷ xs) x among all = elim (Contains-cases y x xs among) [
   | inl same ↦ subst P same all.0
-  | inr later ↦ all_of P xs x all.1 later
+  | inr later ↦ all_of P xs x later all.1
 ]
 
 -- where something stands in two lists behind each other
 pub data IsEither {X : Type 0} (xs ys first : List X) (x : X) (rest : List X) : Type 0 where
-  before : (more : List X) → xs ≡ first ++ x ∷ more → IsEither xs ys first x rest
-  behind : (mid : List X) → first ≡ xs ++ mid → ys ≡ mid ++ x ∷ rest → IsEither xs ys first x rest
+  in_first : (more : List X) → xs ≡ first ++ x ∷ more → IsEither xs ys first x rest
+  in_second : (mid : List X) → first ≡ xs ++ mid → ys ≡ mid ++ x ∷ rest → IsEither xs ys first x rest
 
 pub either_of : {X : Type 0} (xs ys first : List X) (x : X) (rest : List X) → xs ++ ys ≡ first ++ x ∷ rest → IsEither xs ys first x rest
-either_of [] ys first x rest is = IsEither.behind first refl is
+either_of [] ys first x rest is = IsEither.in_second first refl is
 either_of {X} (y ∷ xs) ys [] x rest is =
     let same : y ≡ x = cc in
-    IsEither.before xs (ap (λ (one : X). one ∷ xs) same)
+    IsEither.in_first xs (ap (λ (one : X). one ∷ xs) same)
 either_of {X} (y ∷ xs) ys (z ∷ first) x rest is =
     let same : y ≡ z = cc in
     let further : xs ++ ys ≡ first ++ x ∷ rest = cc in
     by_rest same (either_of xs ys first x rest further)
   where
     by_rest : y ≡ z → IsEither xs ys first x rest → IsEither (y ∷ xs) ys (z ∷ first) x rest
-    by_rest same (IsEither.before more its) =
-        IsEither.before more (ap (λ (one : X). one ∷ xs) same ∙ ap (λ (xs : List X). z ∷ xs) its)
-    by_rest same (IsEither.behind mid its at) =
-        IsEither.behind mid (ap (λ (one : X). one ∷ first) (sym same) ∙ ap (λ (first : List X). y ∷ first) its) at
+    by_rest same (IsEither.in_first more its) =
+        IsEither.in_first more (ap (λ (one : X). one ∷ xs) same ∙ ap (λ (xs : List X). z ∷ xs) its)
+    by_rest same (IsEither.in_second mid its at) =
+        IsEither.in_second mid (ap (λ (one : X). one ∷ first) (sym same) ∙ ap (λ (first : List X). y ∷ first) its) at
 
-among_at : {X : Type 0} (first : List X) (x : X) (rest : List X) → Contains (first ++ x ∷ rest) x
+pub among_at : {X : Type 0} (first : List X) (x : X) (rest : List X) → Contains (first ++ x ∷ rest) x
 among_at first x rest = Contains-append_right first (x ∷ rest) x (Contains-here x rest)
 
 -- heaps that are taken once each: none is in both of two parts
@@ -115,20 +116,20 @@ module _ (count index : ℕ) where
   seen_held (Acts.waits_turn until doer after moved steps turned) history among = absurd (Contains-none (HeapSeen index history) among)
   seen_held (Acts.takes_heap doer heap pen few) history among = absurd (Contains-none (HeapSeen index history) among)
   seen_held (Acts.gives_heap doer heap pen) history among = absurd (Contains-none (HeapSeen index history) among)
-  seen_held (Acts.makes_call doer heap call answer none) history among = absurd (all_of IsUnseen _ (HeapSeen index history) (tt, tt) among)
-  seen_held (Acts.cuts_run doer heap addr run taken) history among = absurd (all_of IsUnseen _ (HeapSeen index history) (tt, tt) among)
+  seen_held (Acts.makes_call doer heap call answer none) history among = absurd (all_of IsUnseen _ (HeapSeen index history) among (tt, tt))
+  seen_held (Acts.cuts_run doer heap addr run taken) history among = absurd (all_of IsUnseen _ (HeapSeen index history) among (tt, tt))
   seen_held (Acts.asks_pages doer after asked run steps does) history among =
-      absurd (all_of IsUnseen _ (HeapSeen index history) (tt, tt) among)
+      absurd (all_of IsUnseen _ (HeapSeen index history) among (tt, tt))
   seen_held (Acts.notifies_run doer after heap run steps does) history among =
-      absurd (all_of IsUnseen _ (HeapSeen index history) (tt, tt) among)
+      absurd (all_of IsUnseen _ (HeapSeen index history) among (tt, tt))
   seen_held (Acts.attaches doer after taken caught tried) history among =
-      absurd (all_of IsUnseen _ (HeapSeen index history) (tt, (tt, tt)) among)
+      absurd (all_of IsUnseen _ (HeapSeen index history) among (tt, (tt, tt)))
   seen_held (Acts.detaches doer taken told above left bare heard) history among = absurd (Contains-none (HeapSeen index history) among)
   seen_held (Acts.notes_left doer elements) history among = absurd (Contains-none (HeapSeen index history) among)
-  seen_held (Acts.reads_names doer names) history among = absurd (all_of IsUnseen _ (HeapSeen index history) (tt, tt) among)
+  seen_held (Acts.reads_names doer names) history among = absurd (all_of IsUnseen _ (HeapSeen index history) among (tt, tt))
   seen_held (Acts.looks_up_lines doer other lines) history among = absurd (Contains-none (HeapSeen index history) among)
-  seen_held (Acts.reads_stats doer heap pair) history among = absurd (all_of IsUnseen _ (HeapSeen index history) (tt, tt) among)
-  seen_held (Acts.changes_names hand doer change) history among = absurd (all_of IsUnseen _ (HeapSeen index history) (tt, tt) among)
+  seen_held (Acts.reads_stats doer heap pair) history among = absurd (all_of IsUnseen _ (HeapSeen index history) among (tt, tt))
+  seen_held (Acts.changes_names hand doer change) history among = absurd (all_of IsUnseen _ (HeapSeen index history) among (tt, tt))
   seen_held (Acts.holds_names held doer after taken given trace steps inner changes) history among =
       elim (Contains-cases _ (HeapSeen index history) trace among) [
         | inl same ↦ cc
@@ -143,16 +144,16 @@ module _ (count index : ℕ) where
       ]
   seen_held (Acts.looks_at_segs doer heap taken) history among = absurd (Contains-none (HeapSeen index history) among)
   seen_held (Acts.plans_range doer heap addr len page taken) history among =
-      absurd (all_of IsUnseen _ (HeapSeen index history) (tt, tt) among)
+      absurd (all_of IsUnseen _ (HeapSeen index history) among (tt, tt))
   seen_held (Acts.claims doer heap chunk taken plan) history among =
-      absurd (all_of IsUnseen _ (HeapSeen index history) (tt, (tt, (tt, tt))) among)
+      absurd (all_of IsUnseen _ (HeapSeen index history) among (tt, (tt, (tt, tt))))
   seen_held (Acts.releases doer heap chunk taken) history among =
-      absurd (all_of IsUnseen _ (HeapSeen index history) (tt, (tt, tt)) among)
+      absurd (all_of IsUnseen _ (HeapSeen index history) among (tt, (tt, tt)))
   seen_held (Acts.maps_chunk doer heap chunk after ended did) history among =
-      absurd (all_of IsUnseen _ (HeapSeen index history) (tt, tt) among)
-  seen_held (Acts.shares doer heap chunk same) history among = absurd (all_of IsUnseen _ (HeapSeen index history) (tt, tt) among)
+      absurd (all_of IsUnseen _ (HeapSeen index history) among (tt, tt))
+  seen_held (Acts.shares doer heap chunk same) history among = absurd (all_of IsUnseen _ (HeapSeen index history) among (tt, tt))
   seen_held (Acts.leaves doer heap chunk after did) history among =
-      absurd (all_of IsUnseen _ (HeapSeen index history) (tt, tt) among)
+      absurd (all_of IsUnseen _ (HeapSeen index history) among (tt, tt))
   seen_held (Acts.and_then hand between last held more doer mid after first rest before behind one two) history among =
       elim (Contains-append_cases first rest (HeapSeen index history) among) [
         | inl early ↦
@@ -254,8 +255,9 @@ module _ (count index : ℕ) where
       IsSeenSo trace = (first rest : List Done) (history : List Entry) → trace ≡ first ++ HeapSeen index history ∷ rest
           → (history ≡ history_of kept) × ((own : OwnCall) → Contains (calls_in first) own → IsCallOf own → ⊥)
 
-      unseen : (trace : List Done) → AllByRecursion IsUnseen trace → IsSeenSo trace
-      unseen trace all first rest history at =
+      unseen : (trace first rest : List Done) (history : List Entry) → trace ≡ first ++ HeapSeen index history ∷ rest
+          → AllByRecursion IsUnseen trace → (history ≡ history_of kept) × ((own : OwnCall) → Contains (calls_in first) own → IsCallOf own → ⊥)
+      unseen trace first rest history at all =
           absurd (all_at IsUnseen first (HeapSeen index history) rest (subst (AllByRecursion IsUnseen) at all))
 
       named_seen : (done : Done) (trace : List Done) → IsUnseen done → calls_in (done ∷ []) ≡ [] → IsSeenSo trace → IsSeenSo (done ∷ trace)
@@ -292,8 +294,8 @@ module _ (count index : ℕ) where
         where
           by_place : IsEither xs ys first (HeapSeen index history) rest
               → (history ≡ history_of kept) × ((own : OwnCall) → Contains (calls_in first) own → IsCallOf own → ⊥)
-          by_place (IsEither.before more is) = early first more history is
-          by_place (IsEither.behind mid first_is is) =
+          by_place (IsEither.in_first more is) = early first more history is
+          by_place (IsEither.in_second mid first_is is) =
               let among : Contains ys (HeapSeen index history) =
               subst (λ (ys : List Done). Contains ys (HeapSeen index history)) (sym is) (among_at mid (HeapSeen index history) rest) in
               let its = late history among mid rest history is in
@@ -308,34 +310,56 @@ module _ (count index : ℕ) where
       pub acts_seen : {hand last : Option ℕ} {held : List ℕ} {doer after : ParticipantView} {trace : List Done} {steps : List MailStep}
           → Acts count hand last held doer after trace steps → (hand ≡ Some index → ⊥) → AreOnce held → (end : Kept)
           → AreAlong index who kept steps end → IsSeenSo trace
-      acts_seen (Acts.nothing hand doer) empty once end along = unseen [] tt
-      acts_seen (Acts.waits_turn until doer after moved steps turned) empty once end along = unseen [] tt
-      acts_seen (Acts.takes_heap doer heap pen few) empty once end along = unseen [] tt
-      acts_seen (Acts.gives_heap doer heap pen) empty once end along = unseen [] tt
-      acts_seen (Acts.makes_call doer heap call answer none) empty once end along = unseen _ (tt, tt)
-      acts_seen (Acts.cuts_run doer heap addr run taken) empty once end along = unseen _ (tt, tt)
-      acts_seen (Acts.asks_pages doer after asked run steps does) empty once end along = unseen _ (tt, tt)
-      acts_seen (Acts.notifies_run doer after heap run steps does) empty once end along = unseen _ (tt, tt)
-      acts_seen (Acts.attaches doer after taken caught tried) empty once end along = unseen _ (tt, (tt, tt))
-      acts_seen (Acts.detaches doer taken told above left bare heard) empty once end along = unseen [] tt
-      acts_seen (Acts.notes_left doer elements) empty once end along = unseen [] tt
-      acts_seen (Acts.reads_names doer names) empty once end along = unseen _ (tt, tt)
-      acts_seen (Acts.looks_up_lines doer other lines) empty once end along = unseen [] tt
-      acts_seen (Acts.reads_stats doer heap pair) empty once end along = unseen _ (tt, tt)
-      acts_seen (Acts.changes_names hand doer change) empty once end along = unseen _ (tt, tt)
-      acts_seen (Acts.holds_names held doer after taken given trace steps inner changes) empty once end along =
+      acts_seen (Acts.nothing hand doer) empty once end along front back history at =
+          unseen [] front back history at tt
+      acts_seen (Acts.waits_turn until doer after moved steps turned) empty once end along front back history at =
+          unseen [] front back history at tt
+      acts_seen (Acts.takes_heap doer heap pen few) empty once end along front back history at =
+          unseen [] front back history at tt
+      acts_seen (Acts.gives_heap doer heap pen) empty once end along front back history at =
+          unseen [] front back history at tt
+      acts_seen (Acts.makes_call doer heap call answer none) empty once end along front back history at =
+          unseen _ front back history at (tt, tt)
+      acts_seen (Acts.cuts_run doer heap addr run taken) empty once end along front back history at =
+          unseen _ front back history at (tt, tt)
+      acts_seen (Acts.asks_pages doer after asked run steps does) empty once end along front back history at =
+          unseen _ front back history at (tt, tt)
+      acts_seen (Acts.notifies_run doer after heap run steps does) empty once end along front back history at =
+          unseen _ front back history at (tt, tt)
+      acts_seen (Acts.attaches doer after taken caught tried) empty once end along front back history at =
+          unseen _ front back history at (tt, (tt, tt))
+      acts_seen (Acts.detaches doer taken told above left bare heard) empty once end along front back history at =
+          unseen [] front back history at tt
+      acts_seen (Acts.notes_left doer elements) empty once end along front back history at =
+          unseen [] front back history at tt
+      acts_seen (Acts.reads_names doer names) empty once end along front back history at =
+          unseen _ front back history at (tt, tt)
+      acts_seen (Acts.looks_up_lines doer other lines) empty once end along front back history at =
+          unseen [] front back history at tt
+      acts_seen (Acts.reads_stats doer heap pair) empty once end along front back history at =
+          unseen _ front back history at (tt, tt)
+      acts_seen (Acts.changes_names hand doer change) empty once end along front back history at =
+          unseen _ front back history at (tt, tt)
+      acts_seen (Acts.holds_names held doer after taken given trace steps inner changes) empty once end along front back history at =
           let parts = split_along kept steps (Gives NAMES_SLOT (Names given) ∷ []) end along.1 in
-          named_seen (NamesRead _) trace tt refl (acts_seen inner empty once parts.0 parts.1)
-      acts_seen (Acts.sees_heap doer heap pen few) empty once end along =
-          seen_one heap.plain.index heap.history (Heap heap pen) refl along.0
-      acts_seen (Acts.looks_at_segs doer heap taken) empty once end along = unseen [] tt
-      acts_seen (Acts.plans_range doer heap addr len page taken) empty once end along = unseen _ (tt, tt)
-      acts_seen (Acts.claims doer heap chunk taken plan) empty once end along = unseen _ (tt, (tt, (tt, tt)))
-      acts_seen (Acts.releases doer heap chunk taken) empty once end along = unseen _ (tt, (tt, tt))
-      acts_seen (Acts.maps_chunk doer heap chunk after ended did) empty once end along = unseen _ (tt, tt)
-      acts_seen (Acts.shares doer heap chunk same) empty once end along = unseen _ (tt, tt)
-      acts_seen (Acts.leaves doer heap chunk after did) empty once end along = unseen _ (tt, tt)
-      acts_seen (Acts.and_then hand between last held more doer mid after first rest before behind one two) empty once end along =
+          named_seen (NamesRead (shared_of taken)) trace tt refl (acts_seen inner empty once parts.0 parts.1) front back history at
+      acts_seen (Acts.sees_heap doer heap pen few) empty once end along front back history at =
+          seen_one heap.plain.index heap.history (Heap heap pen) refl along.0 front back history at
+      acts_seen (Acts.looks_at_segs doer heap taken) empty once end along front back history at =
+          unseen [] front back history at tt
+      acts_seen (Acts.plans_range doer heap addr len page taken) empty once end along front back history at =
+          unseen _ front back history at (tt, tt)
+      acts_seen (Acts.claims doer heap chunk taken plan) empty once end along front back history at =
+          unseen _ front back history at (tt, (tt, (tt, tt)))
+      acts_seen (Acts.releases doer heap chunk taken) empty once end along front back history at =
+          unseen _ front back history at (tt, (tt, tt))
+      acts_seen (Acts.maps_chunk doer heap chunk after ended did) empty once end along front back history at =
+          unseen _ front back history at (tt, tt)
+      acts_seen (Acts.shares doer heap chunk same) empty once end along front back history at =
+          unseen _ front back history at (tt, tt)
+      acts_seen (Acts.leaves doer heap chunk after did) empty once end along front back history at =
+          unseen _ front back history at (tt, tt)
+      acts_seen (Acts.and_then hand between last held more doer mid after first rest before behind one two) empty once end along front back history at =
           let parts = split_along kept before behind end along in
           seen_both first rest (acts_seen one empty (once_front held more once) parts.0 parts.1)
           (λ history among.
@@ -346,6 +370,7 @@ module _ (count index : ℕ) where
           (λ history among own called is.
           let took = (seen_held two history among).0 in
           in_hand took (by_call is (calls_held count one own called)))
+          front back history at
         where
           in_hand : Contains more index → (hand ≡ Some index) ⊎ Contains held index → ⊥
           in_hand took (inl was) = empty was

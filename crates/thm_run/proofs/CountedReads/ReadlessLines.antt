@@ -38,7 +38,7 @@ orderly_reads given _ _ (is_granted asked pages run tag grown found changes allo
 
 attach_reads : (attached : Bool) (given : Answer) (trace : List Done) → IsAttachTrace attached given trace → AllByRecursion IsReadless trace
 attach_reads attached given trace (IsAttachTrace.already is was) = subst (AllByRecursion IsReadless) (sym is) tt
-attach_reads attached given trace (IsAttachTrace.tried records ended out is ends) =
+attach_reads attached given trace (IsAttachTrace.tried records ended out is last) =
     subst (AllByRecursion IsReadless) (sym is) (tt, (tt, tt))
 
 -- a line asks for no statistics that were published

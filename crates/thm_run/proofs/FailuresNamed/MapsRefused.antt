@@ -1,5 +1,5 @@
 -- A line that maps pages and is refused shows that call of its participant's mapper, and no other.
-use Rattle.std.proofs.Common.{◌≡◌, ◌∙◌, ℕ, Bool, true, false, List, [], ◌∷◌, ◌++◌, Option, Some, None, ap, sym, subst, if◌then◌else◌}
+use Rattle.std.proofs.Common.{◌≡◌, ◌∙◌, ℕ, Bool, true, false, List, [], ◌∷◌, ◌++◌, Option, Some, None, refl, ap, sym, subst, if◌then◌else◌}
 use Rattle.hp_base.specs.Flags.{has_bit}
 use Rattle.hp_base.specs.declared.caught.Caught.{Caught}
 use Rattle.hp_base.specs.declared.caught.Caught.TheVariants as caught

@@ -44,7 +44,6 @@ use Rattle.thm_run.proofs.LineSteps.LineComes.{course_of, ended, later, one_ende
 use Rattle.thm_run.proofs.LineSteps.LineMore.{other_courses, own_courses, standing_more}
 use Rattle.thm_run.proofs.LineSteps.Onward.{on_by_line}
 use Rattle.thm_run.proofs.PathSteps.ByMail.{run_of}
-use Rattle.thm_run.proofs.Registrations.RegisteredOn.{standing_left}
 use Rattle.thm_run.proofs.RunFacts.RunChanges.{runs_behind}
 use Rattle.thm_run.proofs.RunFacts.SoFarFacts.{begins_here, none_open_so_far, seats_many}
 use Rattle.thm_run.proofs.SeenAndShown.Provenance.{asked_counts, of_a_seat}
@@ -194,8 +193,7 @@ module _ (workload : Workload) (courses : List Course) (parties behind : List Pa
     validators_same first =
         let so_far : List Course = courses ++ at one first ∷ [] in
         let opening : Standing = opening_standing workload 0 in
-        ap (λ (standing : Standing). standing.validators) (standing_left (opening_standing workload 0) (courses_of 0 so_far))
-        ∙ ⊎_elim
+        ⊎_elim
         (λ (own : line.participant ≡ 0).
         ap (λ (courses : List Course). (standing_after opening courses).validators) (own_courses 0 courses (at one first) own)
         ∙ ap (λ (standing : Standing). standing.validators) (standing_more opening (courses_of 0 courses) (at one first))

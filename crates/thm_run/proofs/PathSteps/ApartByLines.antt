@@ -163,7 +163,8 @@ module _ (who before base start : ℕ) where
       → ((number : ℕ) → old.party.asked < number → length (numbered_in old.trace) < length (numbered_in new.trace)
       → (by ≡ who) × (before < number)) → Stands given
   handles_apart (Handles.looks seat segs) sound growth old kept rising asks = old
-  handles_apart (Handles.moves_ranges seat segs ranges moves) sound growth old kept rising asks = old
+  handles_apart (Handles.moves_ranges seat segs ranges moves) sound growth old kept rising asks =
+      record { armed = old.armed; apart = old.apart; since = old.since; log = old.log; growth = old.growth }
   handles_apart (Handles.steps seat segs event core is its knows denied may) sound growth old kept rising asks =
       event_apart denied event core segs sound old kept.asks
   handles_apart (Handles.maps seat segs caught table now core is its caught_up) sound growth old kept rising asks =

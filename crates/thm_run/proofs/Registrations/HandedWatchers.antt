@@ -21,7 +21,6 @@ use Rattle.hp_serve.specs.Party.{Party}
 use Rattle.hp_serve.specs.Tied.{part_of}
 use Rattle.hp_proc.specs.Courses.{Standing}
 use Rattle.thm_run.proofs.HallFacts.HallEnds.{segs_same}
-use Rattle.thm_run.proofs.Registrations.RegisteredOn.{standing_left}
 use Rattle.thm_run.proofs.RunFacts.SoFarFacts.{at_place}
 use Rattle.thm_run.specs.EndLaws.{IsAtEnd}
 use Rattle.thm_run.specs.Handing.{GrantsEndSo, WatchersEndSo}
@@ -92,7 +91,7 @@ module _ (workload : Workload) (courses : List Course) (answers : List Answer) (
   its_watchers law =
       let watched = law workload courses parties hall so who party there in
       record {
-        names_are = watched.names ∙ ap (λ (standing : Standing). standing.watchers) (sym (standing_left opening (courses_of who courses)));
+        names_are = watched.names;
         registered =
             All-weaker (IsRegisteredWithGrants who opening segs (courses_of who courses) table)
             (IsRegistered who opening segs (courses_of who courses) table) (λ listener its. its.is) party.listeners its_grants;

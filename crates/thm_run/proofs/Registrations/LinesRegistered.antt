@@ -11,7 +11,7 @@ use Rattle.hp_hall.specs.Later.{IsLaterSegs}
 use Rattle.hp_log.specs.declared.log_record.LogRecord.{LogRecord}
 use Rattle.hp_maps.specs.Catching.{Lags}
 use Rattle.hp_maps.specs.MapsView.{table_in}
-use Rattle.hp_plain.specs.HallView.{HallView, own_at, seen_in, slot_at}
+use Rattle.hp_plain.specs.HallView.{HallView, own_at, part_in, seen_in, slot_at}
 use Rattle.hp_proc.specs.LineTrees.{doing_of}
 use Rattle.hp_proc.specs.Contexts.{Context}
 use Rattle.hp_proc.specs.Courses.{Standing, attached_after, numbered_in, records_after}
@@ -43,7 +43,7 @@ use Rattle.thm_run.proofs.LineSteps.LineRun.{line_run}
 use Rattle.thm_run.proofs.LineSteps.LineSettled.{IsLineRun}
 use Rattle.thm_run.proofs.Registrations.KeptWatchers.{acts_hears, heard_all, hears_serves}
 use Rattle.thm_run.proofs.Registrations.LaterRecords.{all_later, grants_later}
-use Rattle.thm_run.proofs.Registrations.RegisteredOn.{line_ends, newly_registered, standing_left, stays_registered, tied_table, was_attached, watch_does_nothing}
+use Rattle.thm_run.proofs.Registrations.RegisteredOn.{line_ends, newly_registered, stays_registered, tied_table, was_attached, watch_does_nothing}
 use Rattle.thm_run.proofs.Registrations.ServedRegistered.{outcomes_taken, registered_same, served_registered}
 use Rattle.thm_run.proofs.RunFacts.SoFarFacts.{IsAt, seat_of}
 use Rattle.thm_run.proofs.SeatFacts.PartsOn.{log_shown}
@@ -207,8 +207,7 @@ module _ (workload : Workload) (courses : List Course) (parties behind : List Pa
         let same : its_last.it.standing.records ≡ (standing_after opening own_lines).records =
         ap (λ (standing : Standing). standing.records) standing_on
         ∙ ap (λ (standing : Standing). standing.records) (own_standing workload by courses one refl)
-        ∙ ap (λ (deed : Act). records_after deed answer (standing_of workload by courses).records) watches
-        ∙ ap (λ (standing : Standing). standing.records) (sym (standing_left opening own_lines)) in
+        ∙ ap (λ (deed : Act). records_after deed answer (standing_of workload by courses).records) watches in
         omega (arith, taken, same, number_is, ap (λ (party : Party). party.maps.number) its_party)
 
     -- and lags behind the log
@@ -220,7 +219,7 @@ module _ (workload : Workload) (courses : List Course) (parties behind : List Pa
         (ap (λ (party : Party). party.maps.rows) party_is)
         (subst (λ (number : ℕ). Lags now.segs.log number (length now.segs.log) (table_in goes.after.party.maps.rows)) number_is
         (subst (λ (log : List LogRecord). Lags log goes.after.party.maps.number (length log) (table_in goes.after.party.maps.rows)) shown
-        (tied_table (seen_in new) (own_at new by) goes.after.party.joined goes.after.party.maps goes.does.tied)))
+        (tied_table (seen_in new) (own_at new by) (λ heap. (part_in new by heap).marked) goes.after.party.joined goes.after.party.maps goes.does.tied)))
 
     -- with all that was granted
     granted : (entry : AskLog) (generation : ℕ) → Contains now.segs.asks entry → granted_by entry.outcome ≡ Some generation → generation ≤ reached

@@ -7,6 +7,7 @@ use Rattle.std.proofs.lemmas.List.Elements.{All-append, All-contains_itself, All
 use Rattle.std.proofs.lemmas.Option.{slice_get_within}
 use Rattle.std.proofs.lemmas.Slice.Eq.{bytes_eq-Decides}
 use Rattle.hp_base.specs.Telling.{Listener}
+use Rattle.hp_base.specs.declared.chunk.Chunk.{Chunk}
 use Rattle.hp_base.specs.declared.row.Row.{Row}
 use Rattle.hp_events.specs.Watchers.{has_name}
 use Rattle.hp_hall.specs.Own.{Own}
@@ -41,10 +42,11 @@ use Rattle.thm_run.specs.Registered.{IsRegisteredBy}
 -- TABLES AND PLACES
 
 -- a tied table lags behind the whole log
-pub tied_table : (log : List LogRecord) (own : Own) (joined : Bool) (maps : MapsView) → IsTied log own joined maps
+pub tied_table : (log : List LogRecord) (own : Own) (marked : ℕ → List Chunk) (joined : Bool) (maps : MapsView)
+    → IsTied log own marked joined maps
     → Lags log maps.number (length log) (table_in maps.rows)
-tied_table log own joined maps tied =
-    let lag = has_lags log (part_of joined own) maps tied.table in
+tied_table log own marked joined maps tied =
+    let lag = has_lags log (part_of joined own) marked maps tied.table in
     let up_to = lag.up_to in
     let seen = tied.table.seen in
     subst (λ n. Lags log n (length log) (table_in maps.rows)) (sym tied.table.number)
@@ -72,11 +74,6 @@ numbered_first (course ∷ courses) (suc place) =
     long : (trace more : List Done)
         → length (numbered_in (trace ++ more)) ≡ length (numbered_in trace) + length (numbered_in more)
     long trace more = ap length (numbered_both trace more) ∙ length-append (numbered_in trace) (numbered_in more)
-
--- what lines leave besides chunks
-pub standing_left : (left : Standing) (courses : List Course) → (standing_after left courses) ≡ standing_after left.standing courses
-standing_left left [] = refl
-standing_left left (course ∷ courses) = standing_left (after_line course.line course.answer course.trace left) courses
 
 -- AS LINES AND RECORDS COME
 

@@ -1,5 +1,5 @@
 -- A hall that opens with heaps of which no call was made has no mark on a chunk: there is no chunk.
-use Rattle.std.proofs.Common.{◌≡◌, ◌∙◌, ℕ, zero, suc, List, [], ◌∷◌, Some, None, ap, subst}
+use Rattle.std.proofs.Common.{◌≡◌, ◌∙◌, ℕ, zero, suc, List, [], ◌∷◌, Some, None, refl, ap, subst}
 use Rattle.std.specs.List.{All, slice_get}
 use Rattle.std.proofs.lemmas.List.Elements.{All-head, All-tail}
 use Rattle.hp_hall.specs.Naming.{marked_by}
@@ -9,7 +9,8 @@ use Rattle.hp_plain.specs.HallSteps.{slots_of}
 use Rattle.hp_plain.specs.HallView.{marks_in}
 use Rattle.hp_plain.specs.Opening.{heaps_in}
 use Rattle.hp_script.specs.declared.workload.Workload.{Workload}
-use Rattle.hp_solo.proofs.SoloUnmarked.{opened_unmarked}
+use Rattle.hp_segs.specs.SegsView.{SegsView}
+use Rattle.hp_zone.specs.declared.names.Names.{Names as NamesView}
 use Rattle.thm_run.specs.SoFar.{AreFirstHeaps, first_names, first_segs}
 
 sound_there : (heaps : List HeapView) (place : ℕ) (heap : HeapView) → All IsSound heaps → slice_get heaps place ≡ Some heap → IsSound heap
@@ -24,6 +25,16 @@ unused_unmarked : (who : ℕ) (heap : HeapView) → IsSound heap → heap.histor
 unfolding marked_by
 unused_unmarked who heap sound none =
     ap (marked_by who) (sound.stands.left ∙ ap (replay (opening_of heap.plain)) none)
+
+opened_unmarked : (segs : SegsView) (names : NamesView) (who : ℕ) (heaps : List HeldHeap) (number : ℕ)
+    → ((place : ℕ) (heap : HeapView) → slice_get (heaps_in heaps) place ≡ Some heap → marked_by who heap.plain ≡ [])
+    → marks_in who (slice_get (slots_of heaps segs names) number) ≡ []
+opened_unmarked segs names who [] zero none = refl
+opened_unmarked segs names who [] (suc zero) none = refl
+opened_unmarked segs names who [] (suc (suc number)) none = refl
+opened_unmarked segs names who (heap ∷ heaps) zero none = none 0 heap.heap refl
+opened_unmarked segs names who (heap ∷ heaps) (suc number) none =
+    opened_unmarked segs names who heaps number (λ place one at. none (suc place) one at)
 
 -- nobody has a mark in the hall that opens for a workload
 pub first_unmarked : (workload : Workload) (held : List HeldHeap) → AreFirstHeaps workload (heaps_in held) → (who number : ℕ)

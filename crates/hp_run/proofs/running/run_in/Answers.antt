@@ -65,14 +65,15 @@ returns g c =
     ends_so workload answers last done heaps left.segs left.names out tables c.end_law.ensures given sound c.in_ok-tables.ensures.tables in
     let at_the_end = at_end workload answers last done heaps left.segs left.names out tables sound c.in_ok-tables.ensures.tables in
     let names =
-    c.names_end_law.ensures workload done.courses answers done.parties last.plain heaps left.segs tables given done.so_far at_the_end in
+    c.names_end_law.ensures workload done.courses answers done.parties last.plain heaps left.segs tables given done.so_far at_the_end
+    done.counted in
     let leave = leave_listeners workload answers last done heaps left.segs left.names out watchers c.in_ok-tables.ensures.watchers in
     record {
       end = record {
         end = ended.0;
         names_end = subst (λ (courses : List Course). EndsWithNames workload courses (shared_of left.names) heaps left.segs tables) (sym ended.1)
             names.0;
-        in_order = subst (λ (courses : List Course). AreHandedInOrder workload courses (shared_of left.names)) (sym ended.1) names.1;
+        in_order = subst (λ (courses : List Course). AreHandedInOrder workload courses (shared_of left.names) heaps) (sym ended.1) names.1;
         notices = subst (λ (courses : List Course). NoticesAreHeard workload.plan.items courses left.segs.asks) (sym ended.1)
             (notices_so workload answers last left.segs c.requires.runnable c.notices_law.ensures done shown);
         drops = λ nothing.

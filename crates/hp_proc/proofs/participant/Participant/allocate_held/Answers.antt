@@ -1,26 +1,23 @@
 -- The heap is searched, gets pages where that found nothing, and is searched again.
-use Rattle.std.proofs.Common.{◌≡◌, ◌∙◌, [], ◌∷◌, ℕ, Bool, None, Some, List, Option, refl, ap, sym, subst, arith}
+use Rattle.std.proofs.Common.{◌≡◌, ◌∙◌, [], ◌∷◌, ℕ, None, Some, List, Option, refl, ap, sym, subst, arith}
 use Rattle.hp_base.specs.declared.request.Request.{Request}
-use Rattle.hp_hall.specs.HallState.{HallState}
-use Rattle.hp_heap.specs.History.{HeapView, IsCall}
-use Rattle.hp_heap.specs.Step.{address_answer}
-use Rattle.hp_heap.specs.declared.entry.HeapCall.TheVariants as call
 use Rattle.hp_script.specs.declared.answer.Answer.TheVariants as gives
-use Rattle.hp_proc.specs.Allocating.{first_flags, trying, with_flags}
-use Rattle.hp_proc.specs.Heaps.{NamedHeap}
-use Rattle.hp_proc.specs.LineInHall.{HaltsHeld, HoldsIn, IsKnownMapped, KeepsHeld, did_in, moment_with}
+use Rattle.hp_proc.specs.Allocating.{after_asking, asking, first_flags, trying, with_flags}
+use Rattle.hp_proc.specs.Heaps.{NamedHeap, page_sizes_for}
+use Rattle.hp_proc.specs.LineInHall.{DoesHeld, HaltsHeld, did_in, moment_with}
 use Rattle.hp_proc.specs.ParticipantView.{ParticipantView}
 use Rattle.hp_proc.specs.PlaceLists.{place_named}
-use Rattle.hp_proc.specs.Progress.{Tries, caller_of}
+use Rattle.hp_proc.specs.Progress.{Tries}
 use Rattle.hp_proc.specs.declared.searched_heap.SearchedHeap.{SearchedHeap}
 use Rattle.hp_serve.proofs.AskingFacts.AskedAlong.{on_err_any}
 use Rattle.hp_proc.proofs.AddressLies.{lies_none, lies_so}
 use Rattle.hp_proc.proofs.ChunkLies.{allocation_lies}
 use Rattle.hp_proc.proofs.HandFacts.BesideNames.{names_kept, names_same}
-use Rattle.hp_proc.proofs.HandFacts.HandAllocates.{keeps_alloc, out_still}
+use Rattle.hp_proc.proofs.HandFacts.HandAgain.{keeps_again, keeps_grown, lies_again}
+use Rattle.hp_proc.proofs.HandFacts.HandAllocates.{keeps_alloc}
 use Rattle.hp_proc.proofs.HandFacts.HandCalls.{call_index, call_serves}
 use Rattle.hp_proc.proofs.HandFacts.HandSearched.{found_again, found_first, found_none, halted, passed, passed_external}
-use Rattle.hp_proc.proofs.HandFacts.Holds.{holds_on, keeps_then}
+use Rattle.hp_proc.proofs.HandFacts.Holds.{holds_on, room_called}
 use Rattle.hp_proc.proofs.participant.Participant.allocate_held.Goals as goal
 
 -- the flags of the first search, as the names have the heap
@@ -33,3 +30,317 @@ asked_is its place request asked flags named is asks =
 
 index_is : (its : NamedHeap) (place : SearchedHeap) → place_named its ≡ place → its.index ≡ place.index
 index_is its place named = ap (λ (place : SearchedHeap). place.index) named
+
+serves_is : (its : NamedHeap) (place : SearchedHeap) → place_named its ≡ place → its.serves ≡ place.serves
+serves_is its place named = ap (λ (place : SearchedHeap). place.serves) named
+
+-- THE FIRST SEARCH
+
+pub allocate_in-requires : goal.allocate_in-requires
+allocate_in-requires g c =
+    let spare = c.requires.room.spare in
+    let counted = c.requires.room.counted in
+    record { spare = omega (arith, spare); counted = omega (arith, counted) }
+
+-- IT in-Some A PLACE
+
+pub returns-in-Some-clause-does : goal.returns-in-Some-clause-does
+returns-in-Some-clause-does g c = λ its heaps named.
+    let place = c.args.place.now in
+    let doer = c.args.self.now in
+    let a = g.H.Hall.state c.args.hall.now in
+    let request = c.args.request.now in
+    subst (λ (at : ℕ). Tries at [] a.count (did_in doer.party.me a a) (trying doer.context.pools request c.args.tag (its ∷ heaps))
+    (trying doer.context.pools request c.args.tag heaps) (Some (gives.Address c.in-Some.addr)) (moment_with c.args.heap.now doer.party.me doer a)
+    (moment_with c.allocate_in.new.heap doer.party.me c.allocate_in.new.self a)) (index_is its place named)
+    (found_first doer c.allocate_in.new.self a c.args.heap.now c.allocate_in.new.heap its request c.with_flags.result c.args.tag c.allocate_in.result
+    (asked_is its place request c.with_flags.result c.first_flags.result named c.first_flags.ensures c.with_flags.ensures) c.allocate_in.ensures.step
+    c.allocate_in.ensures.counted (index_is its place named ∙ c.requires.its) heaps c.in-Some.addr c.in-Some.is)
+
+pub returns-in-Some-clause-lies : goal.returns-in-Some-clause-lies
+returns-in-Some-clause-lies g c = λ given.
+    let doer = c.args.self.now in
+    let a = g.H.Hall.state c.args.hall.now in
+    lies_so doer.party.me a (gives.Address c.in-Some.addr) given
+    (allocation_lies doer.party.me doer c.with_flags.result c.args.tag c.in-Some.addr c.args.heap.now c.allocate_in.new.heap a
+    c.in-Some.ensures.step refl c.requires.holds)
+
+pub returns-in-Some-clause-clock : goal.returns-in-Some-clause-clock
+returns-in-Some-clause-clock g c = λ one. omega arith
+
+pub returns-in-Some-clause-keeps : goal.returns-in-Some-clause-keeps
+returns-in-Some-clause-keeps g c =
+    keeps_alloc c.args.self.now c.allocate_in.new.self c.args.heap.now c.allocate_in.new.heap c.with_flags.result c.args.tag c.allocate_in.result
+    (g.H.Hall.state c.args.hall.now) c.allocate_in.ensures.step c.allocate_in.ensures.counted c.requires.named c.requires.holds
+
+pub returns-in-Some-clause-names : goal.returns-in-Some-clause-names
+returns-in-Some-clause-names g c = names_same c.args.self.now.party.me (g.H.Hall.state c.args.hall.now)
+
+pub returns-in-Some-clause-goes_on : goal.returns-in-Some-clause-goes_on
+returns-in-Some-clause-goes_on g c = g.met.H.Hall.goes_on_same _
+
+-- IT in-Some NONE IN EXTERNAL MEMORY
+
+pub returns-in_default-clause-does : goal.returns-in_default-clause-does
+returns-in_default-clause-does g c = λ its heaps named.
+    let place = c.args.place.now in
+    let doer = c.args.self.now in
+    let a = g.H.Hall.state c.args.hall.now in
+    let request = c.args.request.now in
+    subst (λ (at : ℕ). Tries at [] a.count (did_in doer.party.me a a) (trying doer.context.pools request c.args.tag (its ∷ heaps))
+    (trying doer.context.pools request c.args.tag heaps) None (moment_with c.args.heap.now doer.party.me doer a)
+    (moment_with c.allocate_in.new.heap doer.party.me c.allocate_in.new.self a)) (index_is its place named)
+    (passed_external doer c.allocate_in.new.self a c.args.heap.now c.allocate_in.new.heap its request c.with_flags.result c.args.tag
+    c.allocate_in.result
+    (asked_is its place request c.with_flags.result c.first_flags.result named c.first_flags.ensures c.with_flags.ensures) c.allocate_in.ensures.step
+    c.allocate_in.ensures.counted (index_is its place named ∙ c.requires.its) heaps (serves_is its place named ∙ c.in_default-2.is) c.in_default.is)
+
+pub returns-in_default-clause-lies : goal.returns-in_default-clause-lies
+returns-in_default-clause-lies g c = λ given. lies_none c.args.self.now.party.me (g.H.Hall.state c.args.hall.now) given
+
+pub returns-in_default-clause-clock : goal.returns-in_default-clause-clock
+returns-in_default-clause-clock g c = λ one. omega arith
+
+pub returns-in_default-clause-keeps : goal.returns-in_default-clause-keeps
+returns-in_default-clause-keeps g c =
+    keeps_alloc c.args.self.now c.allocate_in.new.self c.args.heap.now c.allocate_in.new.heap c.with_flags.result c.args.tag c.allocate_in.result
+    (g.H.Hall.state c.args.hall.now) c.allocate_in.ensures.step c.allocate_in.ensures.counted c.requires.named c.requires.holds
+
+pub returns-in_default-clause-names : goal.returns-in_default-clause-names
+returns-in_default-clause-names g c = names_same c.args.self.now.party.me (g.H.Hall.state c.args.hall.now)
+
+pub returns-in_default-clause-goes_on : goal.returns-in_default-clause-goes_on
+returns-in_default-clause-goes_on g c = g.met.H.Hall.goes_on_same _
+
+-- PAGES ARE ASKED FOR
+
+pub grow-requires-clause-holds : goal.grow-requires-clause-holds
+grow-requires-clause-holds g c =
+    holds_on (keeps_alloc c.args.self.now c.allocate_in.new.self c.args.heap.now c.allocate_in.new.heap c.with_flags.result c.args.tag
+    c.allocate_in.result (g.H.Hall.state c.args.hall.now) c.allocate_in.ensures.step c.allocate_in.ensures.counted c.requires.named
+    c.requires.holds) c.requires.holds
+
+pub grow-requires-clause-its : goal.grow-requires-clause-its
+grow-requires-clause-its g c = c.requires.its ∙ sym (call_index _ _ _ _ _ c.allocate_in.ensures.step)
+
+pub grow-requires-clause-of_socket : goal.grow-requires-clause-of_socket
+grow-requires-clause-of_socket g c = call_serves _ _ _ _ _ c.allocate_in.ensures.step ∙ (c.requires.of_socket ∙ c.in-Some-2.is)
+
+pub grow-requires-clause-room : goal.grow-requires-clause-room
+grow-requires-clause-room g c =
+    let room =
+    room_called 2 c.args.self.now c.allocate_in.new.self c.args.heap.now c.allocate_in.new.heap c.allocate_in.ensures.step.spare
+    c.allocate_in.ensures.counted c.requires.room in
+    let spare = room.spare in
+    let counted = room.counted in
+    record { spare = omega (arith, spare); counted = omega (arith, counted) }
+
+-- IT STOPPED MEANWHILE
+
+pub returns-in_err-grow-clause-halts : goal.returns-in_err-grow-clause-halts
+returns-in_err-grow-clause-halts g c =
+    let place = c.args.place.now in
+    let doer = c.args.self.now in
+    let mid = c.allocate_in.new.self in
+    let grown = c.grow.new.self in
+    let heap = c.args.heap.now in
+    let next = c.allocate_in.new.heap in
+    let more = c.grow.new.heap in
+    let a = g.H.Hall.state c.args.hall.now in
+    let b = g.H.Hall.state c.grow.new.hall in
+    let request = c.args.request.now in
+    let socket = c.in-Some-2.socket in
+    let halts : (its : NamedHeap) (heaps : List NamedHeap) → place_named its ≡ place
+      → HaltsHeld doer.party.me doer grown heap more a b (trying doer.context.pools request c.args.tag (its ∷ heaps)) =
+    λ its heaps named.
+    halted doer mid a heap next its request c.with_flags.result c.args.tag c.allocate_in.result
+    (asked_is its place request c.with_flags.result c.first_flags.result named c.first_flags.ensures c.with_flags.ensures) c.allocate_in.ensures.step
+    c.allocate_in.ensures.counted (index_is its place named ∙ c.requires.its) heaps socket (serves_is its place named ∙ c.in-Some-2.is) grown b more
+    c.in_default.is
+    (λ tag otherwise.
+    subst (λ (at : ℕ). HaltsHeld mid.party.me mid grown next more a b
+    (asking at socket request tag otherwise (page_sizes_for mid.context.pools socket request.flags))) (sym (index_is its place named))
+    (c.in_err-grow.ensures.halts tag otherwise)) in
+    on_err_any _ _ halts
+
+pub returns-in_err-grow-clause-clock : goal.returns-in_err-grow-clause-clock
+returns-in_err-grow-clause-clock g c = λ one. omega (arith, c.grow.ensures.clock one, ap (λ (doer : ParticipantView). doer.party.deadline) c.allocate_in.ensures.counted)
+
+pub returns-in_err-grow-clause-keeps : goal.returns-in_err-grow-clause-keeps
+returns-in_err-grow-clause-keeps g c = keeps_grown c.args.self.now c.allocate_in.new.self c.grow.new.self c.args.heap.now c.allocate_in.new.heap c.grow.new.heap
+    c.with_flags.result c.args.request.now c.args.tag c.allocate_in.result (g.H.Hall.state c.args.hall.now) (g.H.Hall.state c.grow.new.hall)
+    c.allocate_in.ensures.step c.allocate_in.ensures.counted c.requires.named c.requires.holds c.grow.ensures.keeps
+
+pub returns-in_err-grow-clause-names : goal.returns-in_err-grow-clause-names
+returns-in_err-grow-clause-names g c = names_kept (keeps_grown c.args.self.now c.allocate_in.new.self c.grow.new.self c.args.heap.now c.allocate_in.new.heap c.grow.new.heap
+    c.with_flags.result c.args.request.now c.args.tag c.allocate_in.result (g.H.Hall.state c.args.hall.now) (g.H.Hall.state c.grow.new.hall)
+    c.allocate_in.ensures.step c.allocate_in.ensures.counted c.requires.named c.requires.holds c.grow.ensures.keeps)
+
+pub returns-in_err-grow-clause-goes_on : goal.returns-in_err-grow-clause-goes_on
+returns-in_err-grow-clause-goes_on g c = c.grow.ensures.goes_on
+
+-- NONE WERE c.if-branch.false
+
+pub returns-if-clause-does : goal.returns-if-clause-does
+returns-if-clause-does g c = λ its heaps named.
+    let place = c.args.place.now in
+    let doer = c.args.self.now in
+    let mid = c.allocate_in.new.self in
+    let grown = c.grow.new.self in
+    let heap = c.args.heap.now in
+    let next = c.allocate_in.new.heap in
+    let more = c.grow.new.heap in
+    let a = g.H.Hall.state c.args.hall.now in
+    let b = g.H.Hall.state c.grow.new.hall in
+    let request = c.args.request.now in
+    let socket = c.in-Some-2.socket in
+    let keeps = keeps_grown c.args.self.now c.allocate_in.new.self c.grow.new.self c.args.heap.now c.allocate_in.new.heap c.grow.new.heap
+    c.with_flags.result c.args.request.now c.args.tag c.allocate_in.result (g.H.Hall.state c.args.hall.now) (g.H.Hall.state c.grow.new.hall)
+    c.allocate_in.ensures.step c.allocate_in.ensures.counted c.requires.named c.requires.holds c.grow.ensures.keeps in
+    subst (λ (at : ℕ). Tries at [] a.count (did_in doer.party.me a b) (trying doer.context.pools request c.args.tag (its ∷ heaps))
+    (trying doer.context.pools request c.args.tag heaps) None (moment_with heap doer.party.me doer a)
+    (moment_with more doer.party.me grown b)) (index_is its place named)
+    (passed doer mid a heap next its request c.with_flags.result c.args.tag c.allocate_in.result
+    (asked_is its place request c.with_flags.result c.first_flags.result named c.first_flags.ensures c.with_flags.ensures) c.allocate_in.ensures.step
+    c.allocate_in.ensures.counted (index_is its place named ∙ c.requires.its) heaps socket (serves_is its place named ∙ c.in-Some-2.is) grown b more
+    c.in_ok-grow.VALUE c.in_default.is
+    (λ tag otherwise.
+    subst (λ (at : ℕ). DoesHeld mid.party.me mid grown next more a b
+    (asking at socket request tag otherwise (page_sizes_for mid.context.pools socket request.flags))
+    (after_asking at request tag otherwise c.in_ok-grow.VALUE)) (sym (index_is its place named)) (c.in_ok-grow.ensures.does tag otherwise)) (c.if-branch.true))
+
+pub returns-if-clause-lies : goal.returns-if-clause-lies
+returns-if-clause-lies g c = λ given. lies_none c.args.self.now.party.me (g.H.Hall.state c.grow.new.hall) given
+
+pub returns-if-clause-clock : goal.returns-if-clause-clock
+returns-if-clause-clock g c = λ one. omega (arith, c.grow.ensures.clock one, ap (λ (doer : ParticipantView). doer.party.deadline) c.allocate_in.ensures.counted)
+
+pub returns-if-clause-keeps : goal.returns-if-clause-keeps
+returns-if-clause-keeps g c = keeps_grown c.args.self.now c.allocate_in.new.self c.grow.new.self c.args.heap.now c.allocate_in.new.heap c.grow.new.heap
+    c.with_flags.result c.args.request.now c.args.tag c.allocate_in.result (g.H.Hall.state c.args.hall.now) (g.H.Hall.state c.grow.new.hall)
+    c.allocate_in.ensures.step c.allocate_in.ensures.counted c.requires.named c.requires.holds c.grow.ensures.keeps
+
+pub returns-if-clause-names : goal.returns-if-clause-names
+returns-if-clause-names g c = names_kept (keeps_grown c.args.self.now c.allocate_in.new.self c.grow.new.self c.args.heap.now c.allocate_in.new.heap c.grow.new.heap
+    c.with_flags.result c.args.request.now c.args.tag c.allocate_in.result (g.H.Hall.state c.args.hall.now) (g.H.Hall.state c.grow.new.hall)
+    c.allocate_in.ensures.step c.allocate_in.ensures.counted c.requires.named c.requires.holds c.grow.ensures.keeps)
+
+pub returns-if-clause-goes_on : goal.returns-if-clause-goes_on
+returns-if-clause-goes_on g c = c.grow.ensures.goes_on
+
+-- SOME WERE, AND IT IS SEARCHED AGAIN
+
+pub allocate_in-2-requires : goal.allocate_in-2-requires
+allocate_in-2-requires g c =
+    let room =
+    room_called 2 c.args.self.now c.allocate_in.new.self c.args.heap.now c.allocate_in.new.heap c.allocate_in.ensures.step.spare
+    c.allocate_in.ensures.counted c.requires.room in
+    let left = c.grow.ensures.spare in
+    let calls = c.grow.ensures.more in
+    let spare = room.spare in
+    let counted = room.counted in
+    record { spare = omega (arith, spare, left); counted = omega (arith, counted, calls) }
+
+pub returns-in-Some-clause-does : goal.returns-in-Some-clause-does
+returns-in-Some-clause-does g c = λ its heaps named.
+    let place = c.args.place.now in
+    let doer = c.args.self.now in
+    let mid = c.allocate_in.new.self in
+    let grown = c.grow.new.self in
+    let heap = c.args.heap.now in
+    let next = c.allocate_in.new.heap in
+    let more = c.grow.new.heap in
+    let a = g.H.Hall.state c.args.hall.now in
+    let b = g.H.Hall.state c.grow.new.hall in
+    let request = c.args.request.now in
+    let socket = c.in-Some-2.socket in
+    let keeps = keeps_grown c.args.self.now c.allocate_in.new.self c.grow.new.self c.args.heap.now c.allocate_in.new.heap c.grow.new.heap
+    c.with_flags.result c.args.request.now c.args.tag c.allocate_in.result (g.H.Hall.state c.args.hall.now) (g.H.Hall.state c.grow.new.hall)
+    c.allocate_in.ensures.step c.allocate_in.ensures.counted c.requires.named c.requires.holds c.grow.ensures.keeps in
+    let last = c.allocate_in-2.new.self in
+    let again = c.allocate_in-2.new.heap in
+    subst (λ (at : ℕ). Tries at [] a.count (did_in doer.party.me a b) (trying doer.context.pools request c.args.tag (its ∷ heaps))
+    (trying doer.context.pools request c.args.tag heaps) (Some (gives.Address c.in-Some-3.addr)) (moment_with heap doer.party.me doer a)
+    (moment_with again doer.party.me last b)) (index_is its place named)
+    (found_again doer mid a heap next its request c.with_flags.result c.args.tag c.allocate_in.result
+    (asked_is its place request c.with_flags.result c.first_flags.result named c.first_flags.ensures c.with_flags.ensures) c.allocate_in.ensures.step
+    c.allocate_in.ensures.counted (index_is its place named ∙ c.requires.its) heaps socket (serves_is its place named ∙ c.in-Some-2.is) grown b more
+    c.in_ok-grow.VALUE c.in_default.is
+    (λ tag otherwise.
+    subst (λ (at : ℕ). DoesHeld mid.party.me mid grown next more a b
+    (asking at socket request tag otherwise (page_sizes_for mid.context.pools socket request.flags))
+    (after_asking at request tag otherwise c.in_ok-grow.VALUE)) (sym (index_is its place named)) (c.in_ok-grow.ensures.does tag otherwise)) last again c.allocate_in-2.result c.allocate_in-2.ensures.step c.allocate_in-2.ensures.counted
+    (index_is its place named ∙ (c.requires.its ∙ sym keeps.index)) (c.if-branch.false) c.in-Some-3.addr c.in-Some-3.is)
+
+pub returns-in-Some-clause-lies : goal.returns-in-Some-clause-lies
+returns-in-Some-clause-lies g c = λ given.
+    lies_so c.args.self.now.party.me (g.H.Hall.state c.grow.new.hall) (gives.Address c.in-Some-3.addr) given
+    (lies_again c.args.self.now c.allocate_in.new.self c.grow.new.self c.args.heap.now c.allocate_in.new.heap c.grow.new.heap
+    c.with_flags.result c.args.request.now c.args.tag c.allocate_in.result (g.H.Hall.state c.args.hall.now) (g.H.Hall.state c.grow.new.hall)
+    c.allocate_in.ensures.step c.allocate_in.ensures.counted c.requires.named c.requires.holds c.grow.ensures.keeps c.allocate_in-2.new.heap c.in-Some-3.addr c.in-Some-3.ensures.step)
+
+pub returns-in-Some-clause-clock : goal.returns-in-Some-clause-clock
+returns-in-Some-clause-clock g c = λ one. omega (arith, c.grow.ensures.clock one, ap (λ (doer : ParticipantView). doer.party.deadline) c.allocate_in.ensures.counted)
+
+pub returns-in-Some-clause-keeps : goal.returns-in-Some-clause-keeps
+returns-in-Some-clause-keeps g c = keeps_again c.args.self.now c.allocate_in.new.self c.grow.new.self c.args.heap.now c.allocate_in.new.heap c.grow.new.heap
+    c.with_flags.result c.args.request.now c.args.tag c.allocate_in.result (g.H.Hall.state c.args.hall.now) (g.H.Hall.state c.grow.new.hall)
+    c.allocate_in.ensures.step c.allocate_in.ensures.counted c.requires.named c.requires.holds c.grow.ensures.keeps c.allocate_in-2.new.self c.allocate_in-2.new.heap c.allocate_in-2.result c.allocate_in-2.ensures.step c.allocate_in-2.ensures.counted
+
+pub returns-in-Some-clause-names : goal.returns-in-Some-clause-names
+returns-in-Some-clause-names g c = names_kept (keeps_again c.args.self.now c.allocate_in.new.self c.grow.new.self c.args.heap.now c.allocate_in.new.heap c.grow.new.heap
+    c.with_flags.result c.args.request.now c.args.tag c.allocate_in.result (g.H.Hall.state c.args.hall.now) (g.H.Hall.state c.grow.new.hall)
+    c.allocate_in.ensures.step c.allocate_in.ensures.counted c.requires.named c.requires.holds c.grow.ensures.keeps c.allocate_in-2.new.self c.allocate_in-2.new.heap c.allocate_in-2.result c.allocate_in-2.ensures.step c.allocate_in-2.ensures.counted)
+
+pub returns-in-Some-clause-goes_on : goal.returns-in-Some-clause-goes_on
+returns-in-Some-clause-goes_on g c = c.grow.ensures.goes_on
+
+pub returns-in-None-clause-does : goal.returns-in-None-clause-does
+returns-in-None-clause-does g c = λ its heaps named.
+    let place = c.args.place.now in
+    let doer = c.args.self.now in
+    let mid = c.allocate_in.new.self in
+    let grown = c.grow.new.self in
+    let heap = c.args.heap.now in
+    let next = c.allocate_in.new.heap in
+    let more = c.grow.new.heap in
+    let a = g.H.Hall.state c.args.hall.now in
+    let b = g.H.Hall.state c.grow.new.hall in
+    let request = c.args.request.now in
+    let socket = c.in-Some-2.socket in
+    let keeps = keeps_grown c.args.self.now c.allocate_in.new.self c.grow.new.self c.args.heap.now c.allocate_in.new.heap c.grow.new.heap
+    c.with_flags.result c.args.request.now c.args.tag c.allocate_in.result (g.H.Hall.state c.args.hall.now) (g.H.Hall.state c.grow.new.hall)
+    c.allocate_in.ensures.step c.allocate_in.ensures.counted c.requires.named c.requires.holds c.grow.ensures.keeps in
+    let last = c.allocate_in-2.new.self in
+    let again = c.allocate_in-2.new.heap in
+    subst (λ (at : ℕ). Tries at [] a.count (did_in doer.party.me a b) (trying doer.context.pools request c.args.tag (its ∷ heaps))
+    (trying doer.context.pools request c.args.tag heaps) (Some gives.None) (moment_with heap doer.party.me doer a)
+    (moment_with again doer.party.me last b)) (index_is its place named)
+    (found_none doer mid a heap next its request c.with_flags.result c.args.tag c.allocate_in.result
+    (asked_is its place request c.with_flags.result c.first_flags.result named c.first_flags.ensures c.with_flags.ensures) c.allocate_in.ensures.step
+    c.allocate_in.ensures.counted (index_is its place named ∙ c.requires.its) heaps socket (serves_is its place named ∙ c.in-Some-2.is) grown b more
+    c.in_ok-grow.VALUE c.in_default.is
+    (λ tag otherwise.
+    subst (λ (at : ℕ). DoesHeld mid.party.me mid grown next more a b
+    (asking at socket request tag otherwise (page_sizes_for mid.context.pools socket request.flags))
+    (after_asking at request tag otherwise c.in_ok-grow.VALUE)) (sym (index_is its place named)) (c.in_ok-grow.ensures.does tag otherwise)) last again c.allocate_in-2.result c.allocate_in-2.ensures.step c.allocate_in-2.ensures.counted
+    (index_is its place named ∙ (c.requires.its ∙ sym keeps.index)) (c.if-branch.false) c.in-None.is)
+
+pub returns-in-None-clause-lies : goal.returns-in-None-clause-lies
+returns-in-None-clause-lies g c = λ given. lies_so c.args.self.now.party.me (g.H.Hall.state c.grow.new.hall) gives.None given tt
+
+pub returns-in-None-clause-clock : goal.returns-in-None-clause-clock
+returns-in-None-clause-clock g c = λ one. omega (arith, c.grow.ensures.clock one, ap (λ (doer : ParticipantView). doer.party.deadline) c.allocate_in.ensures.counted)
+
+pub returns-in-None-clause-keeps : goal.returns-in-None-clause-keeps
+returns-in-None-clause-keeps g c = keeps_again c.args.self.now c.allocate_in.new.self c.grow.new.self c.args.heap.now c.allocate_in.new.heap c.grow.new.heap
+    c.with_flags.result c.args.request.now c.args.tag c.allocate_in.result (g.H.Hall.state c.args.hall.now) (g.H.Hall.state c.grow.new.hall)
+    c.allocate_in.ensures.step c.allocate_in.ensures.counted c.requires.named c.requires.holds c.grow.ensures.keeps c.allocate_in-2.new.self c.allocate_in-2.new.heap c.allocate_in-2.result c.allocate_in-2.ensures.step c.allocate_in-2.ensures.counted
+
+pub returns-in-None-clause-names : goal.returns-in-None-clause-names
+returns-in-None-clause-names g c = names_kept (keeps_again c.args.self.now c.allocate_in.new.self c.grow.new.self c.args.heap.now c.allocate_in.new.heap c.grow.new.heap
+    c.with_flags.result c.args.request.now c.args.tag c.allocate_in.result (g.H.Hall.state c.args.hall.now) (g.H.Hall.state c.grow.new.hall)
+    c.allocate_in.ensures.step c.allocate_in.ensures.counted c.requires.named c.requires.holds c.grow.ensures.keeps c.allocate_in-2.new.self c.allocate_in-2.new.heap c.allocate_in-2.result c.allocate_in-2.ensures.step c.allocate_in-2.ensures.counted)
+
+pub returns-in-None-clause-goes_on : goal.returns-in-None-clause-goes_on
+returns-in-None-clause-goes_on g c = c.grow.ensures.goes_on

@@ -14,8 +14,7 @@ use Rattle.hp_proc.specs.Doing.{Doing}
 use Rattle.hp_proc.specs.Heaps.{sockets_of}
 use Rattle.hp_proc.specs.Halting.{Halts}
 use Rattle.hp_proc.specs.Doing.Done.{HeapSeen}
-use Rattle.hp_proc.specs.ExternalLines.{seeing_heap}
-use Rattle.hp_proc.specs.LineInHall.{HasCalledBeside, IsBesideTheNames, moment}
+use Rattle.hp_proc.specs.LineInHall.{HasCalledBeside, IsBesideTheNames, SeesHeap, moment}
 use Rattle.hp_proc.specs.Progress.{Does, in_hand, with_hand}
 use Rattle.hp_serve.proofs.AskingFacts.AskedAlong.{on_err_any}
 use Rattle.hp_serve.proofs.Carrying.{same_party}
@@ -115,14 +114,17 @@ returns-in-Ok g c =
           (Acts.takes_heap c.taking.self heap pen shown.few))
           entries serves was.stays.same was.context was.asked seen.0 seen.1 heard.0 heard.1);
       sees = λ external goes.
-          subst (λ (index : ℕ). Does (index ∷ []) old.count (λ (steps : List MailStep). Did me steps old new) (seeing_heap index goes)
-          (goes heap.plain) (moment me doer old) (in_hand heap (moment me c.taking.self new))) shown.index
-          (does_seen old.count (λ (steps : List MailStep). Did me steps old new) heap goes (moment me doer old)
-          (in_hand heap (moment me c.taking.self new)) steps external shown.sound did
-          (Acts.and_then None None (Some heap.plain.index) [] (heap.plain.index ∷ []) doer c.taking.self c.taking.self []
-          (HeapSeen heap.plain.index heap.history ∷ []) was.waited.0 (Takes heap.plain.index (Heap heap pen) ∷ []) was.waited.2
-          (Acts.sees_heap c.taking.self heap pen shown.few))
-          entries serves was.stays.same was.context was.asked seen.0 seen.1 heard.0 heard.1);
+          subst (λ (index : ℕ). SeesHeap index me doer c.taking.self heap old new goes) shown.index
+          (record {
+            does = does_seen old.count (λ (steps : List MailStep). Did me steps old new) heap goes (moment me doer old)
+                (in_hand heap (moment me c.taking.self new)) steps external shown.sound did
+                (Acts.and_then None None (Some heap.plain.index) [] (heap.plain.index ∷ []) doer c.taking.self c.taking.self []
+                (HeapSeen heap.plain.index heap.history ∷ []) was.waited.0 (Takes heap.plain.index (Heap heap pen) ∷ []) was.waited.2
+                (Acts.sees_heap c.taking.self heap pen shown.few))
+                entries serves was.stays.same was.context was.asked seen.0 seen.1 heard.0 heard.1;
+            history = heap.history;
+            alone = refl;
+          });
       hand = record {
         holds = record {
           can = record {

@@ -39,12 +39,12 @@ invariant_of-result c =
           (staged_to opened armed c.in_ok-primary.primary c.in_ok-server.server did.goes_on
           (did.slots.home MAX_HEAPS (λ (same : MAX_HEAPS ≡ 0). cc) (opening.home MAX_HEAPS (omega arith)))
           (at_each (λ n. own_at armed n ≡ own_at opened n) 1 did.own did.others.own) joins marks
-          (staged_new opened c.in_ok-primary.primary c.in_ok-server.server opening
+          (staged_new opened c.in_ok-primary.primary c.in_ok-server.server opening c.in_ok-hall.ensures.unmarked
           c.in_ok-primary.ensures.number c.in_ok-server.ensures.number c.in_ok-primary.ensures.joined c.in_ok-server.ensures.joined
           c.in_ok-primary.ensures.tied c.in_ok-server.ensures.tied)),
       joins 1 ∙ (opening.joined 1 (omega arith) ∙ sym (ap (λ (context : Context). context.standing.attached) c.new-context.ensures)),
       record {
         noted = ap (λ (context : Context). context.standing.chunks) c.new-context.ensures;
-        unmarked = λ heap. marks 1 heap ∙ opening.unmarked 1 heap;
+        unmarked = λ heap. marks 1 heap ∙ c.in_ok-hall.ensures.unmarked 1 heap;
       },
     )

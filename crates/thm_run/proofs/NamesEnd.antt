@@ -1,0 +1,2 @@
+pub mod AgreedAtEnd
+pub mod NamesLeft
