@@ -88,3 +88,4 @@ mod ZoneTrees
 mod LinesNamed
 mod ZoneLooked
 mod ZonePlaces
+mod ZoneDone
