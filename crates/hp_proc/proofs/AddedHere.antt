@@ -267,6 +267,7 @@ module _ (old : ParticipantView) (names given : NamesView) (heap next : HeapView
           its_socket = call_serves (caller_of old) (call.Chunk chunk) gives.Done heap next adds.came;
           same = same_party old.party;
           pools = refl;
+          slots = (traded who taken ranges took back_is).slots;
           others = (traded who taken ranges took back_is).others;
         }
 
@@ -318,6 +319,7 @@ module _ (old : ParticipantView) (names : NamesView) (heap : HeapView) (taken : 
     its_socket = refl;
     same = same_party old.party;
     pools = refl;
+    slots = (traded own taken taken.ranges took put.back).slots;
     others = (traded own taken taken.ranges took put.back).others;
   }
 

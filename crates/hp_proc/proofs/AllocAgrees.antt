@@ -1,31 +1,39 @@
 -- Names agree with what its participant knows, with the heap in its hand in which a request was tried.
-use Rattle.std.proofs.Common.{◌≡◌, ◌∙◌, ℕ, true, false, List, Option, Some, None, refl, ap, sym, subst}
+use Rattle.std.proofs.Common.{◌≡◌, ◌∙◌, ◌+◌, ◌++◌, ℕ, Bool, true, false, cond, eqb, List, [], append-nil, Option, Some, None, refl, ap, sym, subst}
 use Rattle.std.specs.List.{reduce}
 use Rattle.std.specs.Prelude.{IfNone}
+use Rattle.std.proofs.lemmas.Bool.{eq-eqb}
 use Rattle.hp_base.specs.declared.request.Request.{Request}
 use Rattle.hp_base.specs.declared.span.Span.{Span}
 use Rattle.hp_base.specs.declared.tag.Caller.{Caller}
 use Rattle.hp_base.specs.declared.tag.Tag.{Tag}
 use Rattle.hp_hall.specs.HallState.{HallState}
 use Rattle.hp_hall.specs.Holding.{AgreeWith, HeapPart}
+use Rattle.hp_hall.specs.Named.{IsAllocated}
 use Rattle.hp_hall.specs.Naming.{naming_of}
 use Rattle.hp_heap.specs.Choice.{HasNoChoice, chosen, sooner}
-use Rattle.hp_heap.specs.History.{HeapView, IsCall}
+use Rattle.hp_heap.specs.History.{HeapView, IsCall, entries_of}
 use Rattle.hp_heap.specs.PlainHeap.{PlainHeap}
 use Rattle.hp_heap.specs.Placing.{after_alloc, after_choice}
 use Rattle.hp_heap.specs.Step.{address_answer, after}
+use Rattle.hp_heap.specs.declared.entry.Entry.{Entry}
 use Rattle.hp_heap.specs.declared.entry.HeapAnswer.{HeapAnswer}
-use Rattle.hp_heap.specs.declared.entry.HeapAnswer.TheVariants as answer
 use Rattle.hp_heap.specs.declared.entry.HeapCall.TheVariants as call
+use Rattle.hp_script.specs.declared.answer.Answer.{Answer}
 use Rattle.hp_script.specs.declared.answer.Answer.TheVariants as gives
 use Rattle.hp_zone.specs.declared.names.Names.{Names as NamesView}
-use Rattle.hp_proc.specs.LineInHall.{HoldsIn, KeepsHeld, KnowsAsBefore}
+use Rattle.hp_proc.specs.Courses.{calls_in}
+use Rattle.hp_proc.specs.Doing.{Doing, Done}
+use Rattle.hp_proc.specs.Histories.{entries_for}
+use Rattle.hp_proc.specs.LineInHall.{HoldsIn, KeepsHeld, KnowsAsBefore, did_in, moment, moment_with}
+use Rattle.hp_proc.specs.NamesInHand.{KeepsAgreed, TakesAgreed}
 use Rattle.hp_proc.specs.ParticipantView.{ParticipantView}
-use Rattle.hp_proc.specs.Progress.{caller_of}
+use Rattle.hp_proc.specs.Progress.{Does, caller_of, with_hand}
 use Rattle.hp_proc.specs.ZonesInHand.{AgreeOnceAnswered, AgreeOnceAnsweredIn, parts_with}
 use Rattle.hp_proc.proofs.HandFacts.BesideNames.{held_agrees}
 use Rattle.hp_proc.proofs.HandFacts.HandCalls.{call_index}
-use Rattle.hp_proc.proofs.ZoneAgrees.{agrees_found, agrees_none, from_parts, into_parts}
+use Rattle.hp_proc.proofs.InHandUntold.{still_leads}
+use Rattle.hp_proc.proofs.ZoneAgrees.{agrees_found, agrees_none, from_parts, hand_entries, into_parts}
 
 -- without an element to choose the heap stays
 left_none : (participant : ℕ) (request : Request) (tag : Tag) (heap : PlainHeap) → HasNoChoice participant request heap
@@ -116,3 +124,51 @@ module _ (doer : ParticipantView) (heap next : HeapView) (asked : Request) (tag 
           hand_keeps me more again (b.part me) (b.part me) same_again
           (says_none (caller_of grown) request tag (address_answer twice) more again second (none_of twice lacks gone)) (λ index. refl) (λ index. refl)
           names (keeps_asked names agree))
+
+-- GIVEN BACK
+
+-- the entries of a heap that is given back are what it has of its holder's
+hand_has : (who : ℕ) (heap : HeapView) (parts : ℕ → HeapPart) (index : ℕ) → index ≡ heap.plain.index
+    → (with_hand who heap parts index).entries ≡ entries_of who heap.history
+hand_has who heap parts index same =
+    let test : eqb index heap.plain.index ≡ true = eq-eqb index heap.plain.index same in
+    by_test (eqb index heap.plain.index) test
+  where
+    by_test : (b : Bool) → b ≡ true
+        → (cond b (record (parts index) { entries = entries_of who heap.history }) (parts index)).entries ≡ entries_of who heap.history
+    by_test true is = refl
+    by_test false is = cc
+
+pub put_entries : (doer : ParticipantView) (heap : HeapView) (third last : HallState)
+    → ((doing : Doing) → Does [] third.count (did_in doer.party.me third last) doing doing (moment_with heap doer.party.me doer third)
+    (moment doer.party.me doer last)) → (index : ℕ) → index ≡ heap.plain.index
+    → (last.part doer.party.me index).entries ≡ entries_of doer.party.me heap.history
+put_entries doer heap third last puts index same =
+    let me = doer.party.me in
+    let does = puts (Doing.Ended gives.None) in
+    let front : HeapPart = with_hand me heap (third.part me) index in
+    does.entries index
+    ∙ (ap (λ (trace : List Done). front.entries ++ entries_for me index (doer.context.calls + 1) (calls_in trace))
+    (still_leads (Doing.Ended gives.None) does.trace does.leads)
+    ∙ (append-nil front.entries ∙ hand_has me heap (third.part me) index same))
+
+module _ (me : ℕ) (tag : Tag) (given : Option Answer) (index : ℕ) (heap left : HeapView) (first second third last : HallState)
+    (here : heap.plain.index ≡ index) (same : left.plain.index ≡ heap.plain.index) (takes : TakesAgreed me heap first second)
+    (there : AgreeOnceAnsweredIn me tag given heap left (second.part me) (third.part me)) (puts : KeepsAgreed me left third last)
+    (kept : (last.part me index).entries ≡ entries_of me left.history) where
+  back : (names : NamesView) → AgreeWith (parts_with me left (third.part me)) names → AgreeWith (last.part me) names
+  back names agree = puts.agrees names (from_parts me left (third.part me) agree)
+
+  taken_so : (names : NamesView) → AgreeWith (first.part me) names → AgreeWith (parts_with me heap (second.part me)) names
+  taken_so names agree = into_parts me heap (second.part me) (takes names agree)
+
+  -- a heap was tried
+  pub agrees_tried : AgreeOnceAnswered tag given index (first.part me) (last.part me)
+  agrees_tried = record {
+    still = λ names found agree. back names (there.still names found (taken_so names agree));
+    with_more = λ names more zone zoned is at have agree.
+        back more (there.with_more names more zone zoned is (at ∙ sym (same ∙ here)) have (taken_so names agree));
+    allocated = λ addr is.
+        subst (λ (entries : List Entry). IsAllocated addr entries) (hand_entries me left (third.part me) left.plain.index refl ∙ sym kept)
+        (there.allocated addr is);
+  }

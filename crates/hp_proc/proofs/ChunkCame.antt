@@ -21,8 +21,6 @@ use Rattle.hp_heap.specs.Tiling.{IsTiled}
 use Rattle.hp_heap.specs.declared.entry.HeapAnswer.TheVariants as gives
 use Rattle.hp_heap.specs.declared.entry.HeapCall.TheVariants as call
 use Rattle.hp_proc.proofs.HandFacts.HandKept.{own_came, own_went}
-use Rattle.hp_proc.specs.LineInHall.{among}
-use Rattle.hp_proc.specs.Outcomes.{above}
 
 apart_by : (a b : ℕ) → a ≢ b → nat_lt b a ≡ not (nat_lt a b)
 apart_by a b apart = elim (cases_lt a b) [

@@ -1,15 +1,14 @@
 -- What was done of a line that detaches, and what it leaves.
-use Rattle.std.proofs.Common.{◌≡◌, ◌⊎◌, ◌∙◌, ℕ, ◌<◌, Bool, true, false, List, [], ◌∷◌, ◌++◌, append-nil, map, None, refl, ap, sym, subst, arith, inl, inr}
+use Rattle.std.proofs.Common.{◌≡◌, ◌⊎◌, ◌∙◌, ℕ, ◌<◌, Bool, true, false, List, [], ◌∷◌, ◌++◌, append-nil, map, None, refl, ap, sym, subst, arith}
 use Rattle.hp_base.specs.Telling.{Listener}
 use Rattle.hp_base.specs.declared.chunk.Chunk.{Chunk}
-use Rattle.hp_hall.specs.HallState.{HallState, HasMapped, OthersStay, SlotsStay}
+use Rattle.hp_hall.specs.HallState.{HallState}
 use Rattle.hp_hall.specs.Holding.{HeapPart}
 use Rattle.hp_hall.specs.Mail.{MailStep, Notes}
 use Rattle.hp_hall.specs.declared.note.Note.TheVariants.{Emptied}
 use Rattle.hp_log.specs.declared.log_record.LogRecord.{LogRecord}
 use Rattle.hp_maps.specs.Events.{IsToldByAddress}
 use Rattle.hp_maps.specs.MapsView.{chunk_rows}
-use Rattle.hp_script.specs.declared.answer.Answer.{Answer}
 use Rattle.hp_script.specs.declared.answer.Answer.TheVariants as answer
 use Rattle.hp_script.specs.declared.line.Act.{Act}
 use Rattle.hp_script.specs.declared.line.Act.TheVariants as act
@@ -25,22 +24,21 @@ use Rattle.hp_serve.specs.Party.{IsSameParty, Party}
 use Rattle.hp_serve.specs.SegmentSlot.{MayHold}
 use Rattle.hp_serve.specs.Serving.{gives_segments, takes_segments}
 use Rattle.hp_serve.specs.Tied.{no_chunks}
-use Rattle.hp_proc.proofs.AttachedLines.{known_none, line_changed, line_nothing, standing_after}
+use Rattle.hp_proc.proofs.ChangedLines.{known_none, line_changed, line_nothing, standing_after}
 use Rattle.hp_proc.proofs.HandFacts.Holds.{does_next}
 use Rattle.hp_proc.proofs.LineFacts.{facts_for}
 use Rattle.hp_proc.proofs.LinesApart.{apart_nameless}
 use Rattle.hp_proc.proofs.TreeDeeds.{IsNameless, Only}
 use Rattle.hp_proc.specs.Acting.{Acts, AreAsked}
-use Rattle.hp_proc.specs.Contexts.{Context, after_calls}
 use Rattle.hp_proc.specs.Courses.{Standing, attached_after}
 use Rattle.hp_proc.specs.Doing.{Doing, Leads}
 use Rattle.hp_proc.specs.ExternalLines.{leaving_all}
-use Rattle.hp_proc.specs.LineInHall.{DoesHere, DoesLineHere, DoesOnceHere, IsReadyAgain, IsReadyIn, MayDetach, did_in, moment}
+use Rattle.hp_proc.specs.LineInHall.{DoesHere, DoesLineHere, DoesOnceHere, IsReadyIn, MayDetach, did_in, moment}
 use Rattle.hp_proc.specs.LineTrees.{doing_of}
 use Rattle.hp_proc.specs.Lines.{Facts, if_attached}
 use Rattle.hp_proc.specs.OwnChunks.{AreMarkedAs, chunks_of, own_chunk}
 use Rattle.hp_proc.specs.ParticipantView.{ParticipantView, with_standing}
-use Rattle.hp_proc.specs.Progress.{Does, DoesApart, DoesLine, DoesOnce, Moment, moment_of}
+use Rattle.hp_proc.specs.Progress.{Does, DoesApart, moment_of}
 use Rattle.hp_proc.specs.declared.own_chunk.OwnChunk.{OwnChunk}
 use Rattle.hp_proc.specs.declared.own_element.OwnElement.{OwnElement}
 
@@ -171,30 +169,30 @@ module _ (line : Line) (its_act : line.act ≡ act.Detach) (doer : ParticipantVi
 
 module _ (count : ℕ) (did : List MailStep → Type 0) (doer after : ParticipantView) (parts later : ℕ → HeapPart) (log now more : List LogRecord)
     (asks heard others : List AskLog) (alike : (heap : ℕ) → later heap ≡ parts heap) (log_is : now ≡ log ++ more) (asks_is : heard ≡ asks ++ others)
-    where
-  -- it left the roster, and noted that
-  pub does_detach : (doing : Doing) (taken : SegsView) (told : List Listener) → 0 < doer.party.me → doer.context.standing.chunks ≡ []
-      → chunk_rows doer.party.maps.rows ≡ [] → IsToldByAddress doer.party.maps.rows doer.party.listeners told
-      → after ≡ with_standing (record doer.context.standing { attached = false }) (record doer { party = after_detaching told doer.party })
-      → did (takes_segments taken ∷ Notes Emptied ∷ gives_segments (after_leave doer.party.me taken) ∷ [])
-      → Does [] count did doing doing (moment_of doer parts log asks) (moment_of after later now heard)
-  unfolding Leads AreAsked
-  does_detach doing taken told secondary left bare heard_is noted made =
-      subst (λ (after : ParticipantView). Does [] count did doing doing (moment_of doer parts log asks) (moment_of after later now heard)) (sym noted)
-      (record {
-        trace = [];
-        steps = takes_segments taken ∷ Notes Emptied ∷ gives_segments (after_leave doer.party.me taken) ∷ [];
-        leads = refl;
-        made = made;
-        acts = Acts.detaches doer taken told secondary left bare heard_is;
-        entries = λ heap. ap (λ (part : HeapPart). part.entries) (alike heap) ∙ sym (append-nil (parts heap).entries);
-        serves = λ heap. ap (λ (part : HeapPart). part.serves) (alike heap);
-        counted = ap (λ (calls : ℕ). record doer.context { standing = record doer.context.standing { attached = false }; calls = calls })
-            (omega arith);
-        same = record { me = refl; socket = refl; plan = refl; deadline = refl };
-        asked = refl;
-        more = more;
-        log = log_is;
-        outcomes = others;
-        asks = asks_is;
-      })
+  where
+    -- it left the roster, and noted that
+    pub does_detach : (doing : Doing) (taken : SegsView) (told : List Listener) → 0 < doer.party.me → doer.context.standing.chunks ≡ []
+        → chunk_rows doer.party.maps.rows ≡ [] → IsToldByAddress doer.party.maps.rows doer.party.listeners told
+        → after ≡ with_standing (record doer.context.standing { attached = false }) (record doer { party = after_detaching told doer.party })
+        → did (takes_segments taken ∷ Notes Emptied ∷ gives_segments (after_leave doer.party.me taken) ∷ [])
+        → Does [] count did doing doing (moment_of doer parts log asks) (moment_of after later now heard)
+    unfolding Leads AreAsked
+    does_detach doing taken told secondary left bare heard_is noted made =
+        subst (λ (after : ParticipantView). Does [] count did doing doing (moment_of doer parts log asks) (moment_of after later now heard)) (sym noted)
+        (record {
+          trace = [];
+          steps = takes_segments taken ∷ Notes Emptied ∷ gives_segments (after_leave doer.party.me taken) ∷ [];
+          leads = refl;
+          made = made;
+          acts = Acts.detaches doer taken told secondary left bare heard_is;
+          entries = λ heap. ap (λ (part : HeapPart). part.entries) (alike heap) ∙ sym (append-nil (parts heap).entries);
+          serves = λ heap. ap (λ (part : HeapPart). part.serves) (alike heap);
+          counted = ap (λ (calls : ℕ). record doer.context { standing = record doer.context.standing { attached = false }; calls = calls })
+              (omega arith);
+          same = record { me = refl; socket = refl; plan = refl; deadline = refl };
+          asked = refl;
+          more = more;
+          log = log_is;
+          outcomes = others;
+          asks = asks_is;
+        })

@@ -1,7 +1,7 @@
 -- A participant that detaches in a hall: it has left all chunks, and leaves the roster.
 use Rattle.std.proofs.Common.{◌<◌, ◌∙◌, ◌≡◌, ◌⊎◌, [], ap, false, subst, sym, ℕ, ⊎_elim}
 use Rattle.hp_hall.specs.HallState.{HallState}
-use Rattle.hp_proc.proofs.AttachedLines.{ready_noted}
+use Rattle.hp_proc.proofs.ChangedLines.{ready_noted}
 use Rattle.hp_proc.proofs.DetachedLines.{MayLeave, detached_same, does_detach, leave_none, leave_ready, no_rows}
 use Rattle.hp_proc.proofs.HandFacts.HandGiven.{ready_still}
 use Rattle.hp_proc.proofs.HandFacts.Holds.{changes_noted, ready_changed}

@@ -11,7 +11,7 @@ use Rattle.hp_external.specs.declared.fault.DestroyFault.{DestroyFault}
 use Rattle.hp_external.specs.declared.fault.DetachFault.TheVariants as detach
 use Rattle.hp_external.specs.declared.fault.DetachFault.{DetachFault}
 use Rattle.hp_external.specs.declared.fault.NameFault.TheVariants as name
-use Rattle.hp_hall.proofs.HallStates.{did_same, others_same}
+use Rattle.hp_hall.proofs.HallStates.{did_same, others_same, slots_same}
 use Rattle.hp_hall.proofs.NamesLeft.{call_leaves}
 use Rattle.hp_hall.specs.HallState.{Did, HallState}
 use Rattle.hp_hall.specs.Values.{IsSoundKept}
@@ -89,6 +89,7 @@ module _ (old new : ParticipantView) (names given : NamesView) (heap next : Heap
           its_socket = refl;
           same = same_party old.party;
           pools = refl;
+          slots = slots_same state;
           others = others_same me state;
         })
 
@@ -247,6 +248,7 @@ module _ (old new : ParticipantView) (names : NamesView) (heap next : HeapView) 
         its_socket = call_serves (caller_of old) (call.Unshare addr len) gives.Done heap next gone.detaches.unshared;
         same = left_same old new heap next note left order gone.detaches.marked;
         pools = left_pools old new heap next note left order gone.detaches.marked;
+        slots = slots_same state;
         others = others_same old.party.me state;
       }
 

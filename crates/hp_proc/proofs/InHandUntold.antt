@@ -19,15 +19,11 @@ use Rattle.hp_proc.proofs.LinesOrdered.{read_on, untold_both}
 pub no_return : (doing : Doing) (done : Done) (trace : List Done) → Leads doing (done ∷ trace) doing → ⊥
 unfolding Leads Goes
 no_return (Ended given) done trace leads = leads
-no_return (Then deed next) done trace (given, is, leads) = by_trace trace leads
-  where
-    by_trace : (trace : List Done) → Leads (next given) trace (Then deed next) → ⊥
-    unfolding Leads Goes
-    by_trace [] leads =
-        no_return (next given) done [] (leads_on (next given) [] (done ∷ []) (Then deed next) (next given) leads (given, is, refl))
-    by_trace (other ∷ trace) leads =
-        no_return (next given) other (trace ++ done ∷ [])
-        (leads_on (next given) (other ∷ trace) (done ∷ []) (Then deed next) (next given) leads (given, is, refl))
+no_return (Then deed next) done [] (given, is, leads) =
+    no_return (next given) done [] (leads_on (next given) [] (done ∷ []) (Then deed next) (next given) leads (given, is, refl))
+no_return (Then deed next) done (other ∷ trace) (given, is, leads) =
+    no_return (next given) other (trace ++ done ∷ [])
+    (leads_on (next given) (other ∷ trace) (done ∷ []) (Then deed next) (next given) leads (given, is, refl))
 
 pub still_leads : (doing : Doing) (trace : List Done) → Leads doing trace doing → trace ≡ []
 still_leads doing [] leads = refl
@@ -70,16 +66,17 @@ module _ (count : ℕ) where
   untold_in_hand _ _ _ _ _ _ _ (Acts.leaves doer at chunk after leaves) none heap end is ends = (tt, tt)
   untold_in_hand _ _ _ _ _ _ _ (Acts.and_then hand between last held more doer mid after first rest before behind here there) none heap end is ends =
       let parts = none_parts held more none in
-      by_hand between refl parts
+      by_hand between refl
+      (λ missing. no_heap between last more mid after rest behind there parts.1 missing)
+      (λ at there_is. untold_in_hand hand between held doer mid first before here parts.0 heap at is there_is)
+      (λ at there_is. untold_in_hand between last more mid after rest behind there parts.1 at end there_is ends)
     where
-      by_hand : (at : Option ℕ) → between ≡ at → (held ≡ []) × (more ≡ []) → AreUntold (first ++ rest)
-      by_hand None missing parts = absurd (none_is (sym (no_heap between last more mid after rest behind there parts.1 missing) ∙ ends))
-        where
-          none_is : None ≡ Some end → ⊥
-          none_is same = cc
-      by_hand (Some at) there_is parts =
-          untold_both first rest (untold_in_hand hand between held doer mid first before here parts.0 heap at is there_is)
-          (untold_in_hand between last more mid after rest behind there parts.1 at end there_is ends)
+      none_is : None ≡ Some end → ⊥
+      none_is same = cc
+      by_hand : (at : Option ℕ) → between ≡ at → (between ≡ None → last ≡ None) → ((at : ℕ) → between ≡ Some at → AreUntold first)
+          → ((at : ℕ) → between ≡ Some at → AreUntold rest) → AreUntold (first ++ rest)
+      by_hand None missing ended front behind = absurd (none_is (sym (ended missing) ∙ ends))
+      by_hand (Some at) there_is ended front behind = untold_both first rest (front at there_is) (behind at there_is)
   untold_in_hand _ _ _ _ _ _ _ _ none heap end is ends = absurd (cc)
 
 -- WHAT FOLLOWS AMONG THE NAMES

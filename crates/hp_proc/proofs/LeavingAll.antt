@@ -1,5 +1,5 @@
 -- The chunks of heap after heap are left: no heap is held twice, and what was noted of chunks goes with them.
-use Rattle.std.proofs.Common.{◌+◌, ◌++◌, ◌<◌, ◌≤◌, ◌∙◌, ◌∷◌, ◌≡◌, Bool, Contains, List, None, Option, Some, [], ap, arith, cond, count_by, eqb, false, filter, inl, inr, length, not, refl, suc, subst, sym, true, zero, ℕ}
+use Rattle.std.proofs.Common.{◌+◌, ◌++◌, ◌<◌, ◌≤◌, ◌∙◌, ◌∷◌, ◌≡◌, ◌⊎◌, Bool, Contains, List, None, Some, [], ap, arith, cond, count_by, eqb, false, filter, inl, inr, length, not, refl, suc, subst, sym, true, zero, ℕ, ⊎_elim}
 use Rattle.std.specs.List.{AllByRecursion}
 use Rattle.std.proofs.lemmas.Bool.{cases_eq, eqb-true, ne_eqb}
 use Rattle.std.proofs.lemmas.List.Sums.{count_by-le-length, length-filter}
@@ -18,7 +18,7 @@ use Rattle.hp_proc.proofs.OwnNotes.{beside_here, first_ones, none_first, of_here
 use Rattle.hp_proc.specs.Courses.{Standing}
 use Rattle.hp_proc.specs.Doing.{Doing}
 use Rattle.hp_proc.specs.ExternalLines.{leaving_all}
-use Rattle.hp_proc.specs.LineInHall.{DoesHere, DoesOnceHere, HaltsHere, did_in, moment}
+use Rattle.hp_proc.specs.LineInHall.{DoesHere, DoesOnceHere, HaltsHere, IsReadyIn, did_in, moment}
 use Rattle.hp_proc.specs.OwnChunks.{AreFirstOf, AreOwnChunks, chunks_beside, chunks_of, first_of}
 use Rattle.hp_proc.specs.ParticipantView.{ParticipantView}
 use Rattle.hp_proc.specs.Progress.{AreOnce}
@@ -175,3 +175,19 @@ pub standing_ends : (me : ℕ) (old now : ParticipantView) (from to : HallState)
 standing_ends me old now from to was is =
     was.standing
     ∙ ap (λ (l : List OwnChunk). record old.context.standing { chunks = l }) (none_first now.context.standing.chunks (sym is))
+
+-- where a chunk is noted it was ready
+pub none_noted : (doer now : ParticipantView) (chunk : OwnChunk) → Some chunk ≡ first_of now.context.standing.chunks
+    → (doer.context.standing.chunks ≡ [] → now ≡ doer) → doer.context.standing.chunks ≡ [] → ⊥
+none_noted doer now chunk is alone none =
+    let wrong : Some chunk ≡ first_of [] =
+    is
+    ∙ (ap (λ (d : ParticipantView). first_of d.context.standing.chunks) (alone none) ∙ ap first_of none) in
+    cc
+
+pub must_ready : (doer now : ParticipantView) (chunk : OwnChunk) (state : HallState) → Some chunk ≡ first_of now.context.standing.chunks
+    → (doer.context.standing.chunks ≡ [] → now ≡ doer) → (doer.context.standing.chunks ≡ []) ⊎ IsReadyIn doer.party.me doer state
+    → IsReadyIn doer.party.me doer state
+must_ready doer now chunk state is alone may =
+    ⊎_elim (λ (none : doer.context.standing.chunks ≡ []). absurd (none_noted doer now chunk is alone none))
+    (λ (ready : IsReadyIn doer.party.me doer state). ready) may

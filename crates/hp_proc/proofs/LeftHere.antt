@@ -71,7 +71,7 @@ module _ (old new : ParticipantView) (heap next : HeapView) (chunk : OwnChunk) (
       (ap (λ (c : Context). c.standing.chunks) context_is ∙ ap (λ (n : OwnChunk). without_own_chunk n old.context.standing.chunks) its_note)
       state holds
 
-  left_acts : (count : ℕ) → Acts count (Some at) (Some at) [] old new (Called at (call.Unshare chunk.addr chunk.len) gives.Done ∷ []) []
+  pub left_acts : (count : ℕ) → Acts count (Some at) (Some at) [] old new (Called at (call.Unshare chunk.addr chunk.len) gives.Done ∷ []) []
   left_acts count =
       subst (λ (d : ParticipantView). Acts count (Some at) (Some at) [] old d (Called at (call.Unshare chunk.addr chunk.len) gives.Done ∷ []) [])
       (sym left.noted)

@@ -1,3 +1,4 @@
+mod AddedHere
 pub mod AddressLies
 mod AgreedLater
 pub mod AllocAgrees
@@ -6,10 +7,10 @@ pub mod AllocLines
 pub mod AttachedLines
 pub mod AwaitedLines
 pub mod HandFacts
+pub mod ChangedLines
 pub mod ChosenHeaps
-pub mod ChunkLies
-mod AddedHere
 mod ChunkCame
+pub mod ChunkLies
 mod ChunksLeft
 pub mod Continued
 mod ExternalMeant
@@ -19,8 +20,8 @@ mod DumpLines
 pub mod FoundZones
 pub mod HallMoments
 pub mod Halted
-pub mod InHandUntold
 mod HeldArms
+pub mod InHandUntold
 pub mod InTurn
 pub mod Joining
 pub mod LawLemmas
@@ -46,8 +47,8 @@ mod MayAttachHere
 pub mod MeantHeaps
 pub mod NamedPlaces
 pub mod NamesAround
-pub mod NamesBeside
 pub mod NamesFollow
+pub mod NamesBeside
 mod NamesHeld
 mod NamesRead
 pub mod Noted
@@ -89,3 +90,5 @@ mod LinesNamed
 mod ZoneLooked
 mod ZonePlaces
 mod ZoneDone
+pub mod NamedTrees
+pub mod ThereDone

@@ -6,7 +6,7 @@ use Rattle.std.specs.Option.{option_flatten}
 use Rattle.hp_base.specs.declared.chunk.Chunk.{Chunk}
 use Rattle.hp_base.specs.declared.limits.TheConstants.{MAX_HEAPS}
 use Rattle.hp_external.specs.Creating.{Creates, Destroys}
-use Rattle.hp_hall.proofs.HallStates.{did_same, others_same}
+use Rattle.hp_hall.proofs.HallStates.{did_same, others_same, slots_same}
 use Rattle.hp_hall.specs.AgreedNames.{AreAgreedNames}
 use Rattle.hp_hall.specs.HallState.{Did, HallState}
 use Rattle.hp_hall.specs.Naming.{Naming, naming_of}
@@ -102,6 +102,7 @@ module _ (old : ParticipantView) (names given : NamesView) (heap next : HeapView
           its_socket = call_serves (caller_of old) its gives.Done heap next step;
           same = same_party old.party;
           pools = refl;
+          slots = slots_same state;
           others = others_same me state;
         }
 

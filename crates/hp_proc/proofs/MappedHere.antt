@@ -14,7 +14,7 @@ use Rattle.hp_external.specs.Attaching.{Attaches, IsAttachFault, IsFailedCall, I
 use Rattle.hp_external.specs.Naming.{IsNamedChunk}
 use Rattle.hp_external.specs.declared.fault.AttachFault.TheVariants as attach
 use Rattle.hp_external.specs.declared.fault.AttachFault.{AttachFault}
-use Rattle.hp_hall.proofs.HallStates.{others_same}
+use Rattle.hp_hall.proofs.HallStates.{others_same, slots_same}
 use Rattle.hp_hall.proofs.NamesLeft.{call_leaves}
 use Rattle.hp_hall.specs.AgreedNames.{AreAgreedNames}
 use Rattle.hp_hall.specs.HallState.{Did, HallState}
@@ -170,6 +170,7 @@ module _ (old new : ParticipantView) (names : NamesView) (heap next : HeapView) 
           its_socket = call_serves (caller_of old) (call.Share addr len) gives.Done heap next got.attaches.shared;
           same = same;
           pools = pools;
+          slots = stays.slots;
           others = stays.others;
         }
 
@@ -260,6 +261,7 @@ nothing_keeps old names heap state holds = record {
   its_socket = refl;
   same = same_party old.party;
   pools = refl;
+  slots = slots_same state;
   others = others_same old.party.me state;
 }
 
@@ -360,6 +362,7 @@ module _ (old new : ParticipantView) (names : NamesView) (heap : HeapView) (take
       its_socket = refl;
       same = same;
       pools = ap (λ (k : Context). k.pools) context_is;
+      slots = (traded who taken taken.ranges took put.back).slots;
       others = (traded who taken taken.ranges took put.back).others;
     }
 

@@ -1,6 +1,6 @@
 -- What a participant notes to be attached, chunk by chunk: each stands before those after it, so that those of the first one's heap stand first.
-use Rattle.std.proofs.Common.{◌≡◌, ◌≢◌, ◌∙◌, ℕ, ◌<◌, ◌≤◌, Bool, true, false, ◌&&◌, ◌||◌, not, cond, List, [], ◌∷◌, ◌++◌, Contains, Option, Some, None, filter, length, refl, sym, ap, subst, arith, eqb, eq-eqb, inl, inr}
-use Rattle.std.specs.Prelude.{nat_lt, ⊤}
+use Rattle.std.proofs.Common.{◌≡◌, ◌≢◌, ◌∙◌, ℕ, ◌<◌, ◌≤◌, Bool, true, false, ◌&&◌, ◌||◌, not, List, [], ◌∷◌, ◌++◌, Contains, Some, None, filter, refl, sym, ap, subst, arith, eqb, eq-eqb, inl, inr}
+use Rattle.std.specs.Prelude.{nat_lt}
 use Rattle.std.specs.List.{AllByRecursion}
 use Rattle.std.proofs.lemmas.Bool.{cases_lt, cond-false, cond-true, eqb-true, false≢true, le-ltb, lt-ltb, ne_eqb, or_left, or_right}
 use Rattle.hp_base.specs.declared.limits.TheConstants.{MAX_HEAPS}
@@ -190,8 +190,7 @@ module _ (heap : ℕ) where
   stand_first [] rising least = refl
   stand_first (chunk ∷ chunks) rising least = elim (cases_lt heap chunk.heap) [
     | inl higher ↦
-        let above : AllByRecursion (λ (one : OwnChunk). heap < one.heap) (chunk ∷ chunks) =
-        (
+        let above : AllByRecursion (λ (one : OwnChunk). heap < one.heap) (chunk ∷ chunks) = (
           higher,
           AllByRecursion-each (λ (one : OwnChunk). heap < one.heap) chunks
               (λ one among.
@@ -240,8 +239,7 @@ module _ (heap : ℕ) where
 -- those of the first one's heap stand first
 pub first_ones : (chunk : OwnChunk) (chunks : List OwnChunk) → AreRising (chunk ∷ chunks) → AreFirstOf chunk.heap (chunk ∷ chunks)
 first_ones chunk chunks rising =
-    stand_first chunk.heap (chunk ∷ chunks) rising
-    (
+    stand_first chunk.heap (chunk ∷ chunks) rising (
       omega arith,
       AllByRecursion-each (λ (one : OwnChunk). chunk.heap ≤ one.heap) chunks
           (λ one among. before_heap chunk one (AllByRecursion-contains (λ (o : OwnChunk). is_before chunk o ≡ true) chunks one rising.0 among)),

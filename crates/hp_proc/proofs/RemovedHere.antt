@@ -241,6 +241,7 @@ module _ (old : ParticipantView) (names given : NamesView) (heap next : HeapView
           its_socket = call_serves (caller_of old) (call.Unchunk addr len) gives.Done heap next removes.went;
           same = same_party old.party;
           pools = refl;
+          slots = (traded me taken ranges took back_is).slots;
           others = (traded me taken ranges took back_is).others;
         }
 

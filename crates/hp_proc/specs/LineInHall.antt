@@ -213,6 +213,7 @@ pub record IsAsTaken (taken : ℕ → Option Kept) (heap : HeapView) : Type 0 wh
   pub pen : PenView
   pub out : taken heap.plain.index ≡ Some (Heap was pen)
   pub same : was.plain ≡ heap.plain
+  pub left : was.history ≡ heap.history
 
 -- the heap of that index is the one that it has in hand, as it was taken, with the pen that it has taken with it
 pub record HoldsHeap (slot me : ℕ) (doer : ParticipantView) (heap : HeapView) (pen : PenView) (state : HallState) : Type 0 where

@@ -1,5 +1,5 @@
 -- A participant whose table lost the rows of a chunk, that counted the call, and forgot the chunk.
-use Rattle.std.proofs.Common.{◌∙◌, ◌≡◌, Bool, List, Option, Some, ap, subst, sym, true, ℕ}
+use Rattle.std.proofs.Common.{◌∙◌, ◌≡◌, Bool, List, Some, ap, subst, sym, true, ℕ}
 use Rattle.hp_base.specs.Flags.{has_bit}
 use Rattle.hp_base.specs.declared.chunk.Chunk.{Chunk}
 use Rattle.hp_base.specs.declared.tag.Caller.{Caller}

@@ -276,6 +276,7 @@ spared_taken old new taken same is = record {
   pen = is.pen;
   out = ap (λ (heap : PlainHeap). taken heap.index) same.plain ∙ is.out;
   same = is.same ∙ sym same.plain;
+  left = is.left ∙ sym same.history;
 }
 
 module _ (old new : HeapView) (same : SameButSpare old new) (moment : Moment) where

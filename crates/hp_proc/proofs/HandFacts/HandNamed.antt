@@ -44,6 +44,10 @@ count_both {X} p q (x ∷ xs) =
     by_first true = sym (count_by-cons q x (filter p xs))
     by_first false = refl
 
+its_chunks : (addr len page : ℕ) (h : PlainHeap) → count_by (is_memory addr len page) (naming_of h).chunks ≡ count_by (is_memory addr len page) h.chunks
+unfolding naming_of
+its_chunks addr len page h = count_map unmarked (is_memory addr len page) h.chunks
+
 module _ (heap : HeapView) (parts : ℕ → HeapPart) (names : NamesView) (agree : AgreeWith (with_naming heap parts) names)
     (few : heap.plain.index < MAX_HEAPS) where
   abbrev at : ℕ
@@ -132,11 +136,7 @@ module _ (heap : HeapView) (parts : ℕ → HeapPart) (names : NamesView) (agree
       count_both (λ (r : HeapRange). eqb r.index at) tests names.heaps.plain.ranges
       ∙ (sym moved
       ∙ (count_map (directory_range at) tests (agree.namings at).chunks
-      ∙ (ap (λ (n : Naming). count_by (is_memory addr len page) n.chunks) (sym known_here) ∙ its_chunks heap.plain)))
-    where
-      its_chunks : (h : PlainHeap) → count_by (is_memory addr len page) (naming_of h).chunks ≡ count_by (is_memory addr len page) h.chunks
-      unfolding naming_of
-      its_chunks h = count_map unmarked (is_memory addr len page) h.chunks
+      ∙ (ap (λ (n : Naming). count_by (is_memory addr len page) n.chunks) (sym known_here) ∙ its_chunks addr len page heap.plain)))
 
 -- names of which the directory has changed go on from the taken ones as before
 pub names_go : (entries : ℕ → List Entry) (was names given : NamesView) (more : List NameChange) → GivesNames entries was names

@@ -68,7 +68,7 @@ ready_marked doer heap {old} {a} {b} holds free marks tied ready table at slots 
     below : (number : ℕ) → number ≤ NAMES_SLOT → number ≢ NAMES_SLOT → number < NAMES_SLOT
     below number few away = omega (arith, few, away)
 
-module _ {first mid last : ParticipantView} {one two : HeapView} {pen : PenView} {slot : ℕ} {old a b : HallState}
+module _ {first mid last : ParticipantView} {one two : HeapView} {pen : PenView} {slot : ℕ} {old a : HallState}
     (same : IsSameParty first.party mid.party) (knew : mid.context ≡ first.context) (few : slot < MAX_HEAPS)
     (free : AreFreeBesideNames slot first.party.me old a) (hand : HoldsHeap slot first.party.me mid one pen a) (chunks : List OwnChunk)
     (left : HasLeft chunks mid last one two a) (ready : IsReadyIn first.party.me first old) where
@@ -89,10 +89,10 @@ module _ {first mid last : ParticipantView} {one two : HeapView} {pen : PenView}
   free_left : AreFreeBesideNames two.plain.index first.party.me old a
   free_left = subst (λ (at : ℕ). AreFreeBesideNames at first.party.me old a) (sym index_is) free
 
-  pub back_left : HasMarksOf last.party.me two a b → (IsTiedWith last.party.me last.party two a → IsTiedIn last.party.me last.party b)
+  pub back_left : {b : HallState} → HasMarksOf last.party.me two a b → (IsTiedWith last.party.me last.party two a → IsTiedIn last.party.me last.party b)
       → MayDo (moment last.party.me last b) → TableStays last.party.me a b → KeepsAgreed last.party.me two a b → IsFreeAt two.plain.index b
       → SlotsStayBut two.plain.index a b → OthersStay last.party.me a b → IsReadyAgain first.party.me first last b
-  back_left marks tied may table agreed at slots others =
+  back_left {b} marks tied may table agreed at slots others =
       let but : IsReadyBut NAMES_SLOT last.party.me last b =
       ready_marked last two left.holds (subst (λ (who : ℕ). AreFreeBesideNames two.plain.index who old a) (sym mine) free_left) marks tied may
       table at slots others in
@@ -109,14 +109,14 @@ module _ {first mid last : ParticipantView} {one two : HeapView} {pen : PenView}
       }
 
 -- with the heap in its hand it notes what it noted before
-pub stood : {first mid : ParticipantView} {one : HeapView} {slot : ℕ} → mid.context ≡ first.context → one.plain.index ≡ slot
+pub stood : (first mid : ParticipantView) (one : HeapView) {slot : ℕ} → mid.context ≡ first.context → one.plain.index ≡ slot
     → AreFirstOf slot first.context.standing.chunks → AreFirstOf one.plain.index mid.context.standing.chunks
-stood {first} {mid} {one} {slot} knew index stand =
+stood first mid one {slot} knew index stand =
     subst (λ (at : ℕ). AreFirstOf at mid.context.standing.chunks) (sym index)
     (subst (AreFirstOf slot) (sym (ap (λ (context : Context). context.standing.chunks) knew)) stand)
 
 -- what was left, by what was noted before it took the heap
-module _ {first mid last : ParticipantView} {one two : HeapView} {slot : ℕ} {a : HallState} (knew : mid.context ≡ first.context)
+module _ (first mid last : ParticipantView) (one two : HeapView) {slot : ℕ} {a : HallState} (knew : mid.context ≡ first.context)
     (index : one.plain.index ≡ slot) (stand : AreFirstOf slot first.context.standing.chunks)
     (left : HasLeft (chunks_of one.plain.index mid.context.standing.chunks) mid last one two a)
     (others : last.context.standing.chunks ≡ chunks_beside one.plain.index mid.context.standing.chunks) where
@@ -138,7 +138,7 @@ module _ {first mid last : ParticipantView} {one two : HeapView} {slot : ℕ} {a
       subst (λ (chunks : List OwnChunk). DoesHeld mid.party.me mid last one two a a (leaving_all chunks) (leaving_all last.context.standing.chunks))
       (ap (λ (context : Context). context.standing.chunks) knew)
       (subst (λ (chunks : List OwnChunk). DoesHeld mid.party.me mid last one two a a (leaving_all chunks)
-      (leaving_all last.context.standing.chunks)) (sym (stood knew index stand))
+      (leaving_all last.context.standing.chunks)) (sym (stood first mid one knew index stand))
       (subst (λ (rest : List OwnChunk). DoesHeld mid.party.me mid last one two a a
       (leaving_all (chunks_of one.plain.index mid.context.standing.chunks ++ chunks_beside one.plain.index mid.context.standing.chunks))
       (leaving_all rest)) (sym others) (left.does (chunks_beside one.plain.index mid.context.standing.chunks))))

@@ -36,9 +36,10 @@ pub does_seen : {held : List ℕ} (count : ℕ) (did : List MailStep → Type 0)
     → ((index : ℕ) → (new.parts index).entries ≡ (old.parts index).entries)
     → ((index : ℕ) → (new.parts index).serves ≡ (old.parts index).serves) → IsSameParty old.party new.party → new.context ≡ old.context
     → new.party.asked ≡ old.party.asked → (more : List LogRecord) → new.log ≡ old.log ++ more → (outcomes : List AskLog)
-    → new.asks ≡ old.asks ++ outcomes → Does held count did (seeing_heap heap.plain.index goes) (goes heap.plain) old new
+    → new.asks ≡ old.asks ++ outcomes → (does : Does held count did (seeing_heap heap.plain.index goes) (goes heap.plain) old new)
+    × (does.trace ≡ HeapSeen heap.plain.index heap.history ∷ [])
 unfolding Leads Goes AreAsked
-does_seen {held} count did heap goes old new steps external sound made acts entries serves same known asked more log outcomes asks = record {
+does_seen {held} count did heap goes old new steps external sound made acts entries serves same known asked more log outcomes asks = (record {
   trace = HeapSeen heap.plain.index heap.history ∷ [];
   steps = steps;
   leads = (heap.history, refl, ap goes (sym (external_is heap external sound)));
@@ -53,7 +54,7 @@ does_seen {held} count did heap goes old new steps external sound made acts entr
   log = log;
   outcomes = outcomes;
   asks = asks;
-}
+}, refl)
 
 -- so it is with a heap that is the same but for the room of its history
 pub sees_spared : (before behind : HeapView) → SameButSpare before behind → (index me : ℕ) (old new : ParticipantView) (from to : HallState)
@@ -66,7 +67,7 @@ sees_spared before behind same index me old new from to goes sees =
       × ((history : List Entry) × (does.trace ≡ HeapSeen index history ∷ []))) (sym same.plain)
     (subst (λ (left : List Entry). (does : Does (index ∷ []) from.count (λ steps. Did me steps from to) (seeing_heap index goes) (goes before.plain)
       (moment me old from) (moment_with (record behind { plain = before.plain; history = left }) me new to))
-      × ((history : List Entry) × (does.trace ≡ HeapSeen index history ∷ []))) (sym same.history) (sees.does, sees.history, sees.alone)) in
+      × ((history : List Entry) × (does.trace ≡ HeapSeen index history ∷ []))) (sym same.history) (sees.does, (sees.history, sees.alone))) in
     record { does = both.0; history = both.1.0; alone = both.1.1 }
 
 -- who has taken a heap may serve

@@ -67,17 +67,15 @@ line_of who act = record { line = 7; participant = who; act = act }
 
 abbrev pub facts : List OwnChunk → Facts
 facts chunks = record {
-  known = record {
-    attached = true;
-    own_socket = 0;
-    pools = pools;
-    request = None;
-    maker = None;
-    own_heap = None;
-    watchers = [];
-    validators = [];
-  };
+  attached = true;
+  own_socket = 0;
+  pools = pools;
+  request = None;
+  maker = None;
+  own_heap = None;
   chunks = chunks;
+  watchers = [];
+  validators = [];
 }
 
 -- one external heap has a name; then it has memory; then the memory is gone again

@@ -212,7 +212,7 @@ impl<'p, M: Mapper, F: Decide + Copy + Drop> Participant<'p, M, F> {
             return Ok(Answer::Detached);
         }
         // How long it waits at most is handed out with its deadline.
-        let _deadline = self.judged.server.deadline();
+        let _deadline = self.server().deadline();
         self.do_attached(hall, line)
     }
 

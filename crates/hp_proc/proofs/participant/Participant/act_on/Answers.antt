@@ -183,3 +183,6 @@ returns-clause-halts g c =
           (c.number.ensures ∙ mine) c.is_zone-zone.ensures c.act_for-action.ensures c.as_slice.ensures.value) halts)),
     ))
     c.look_for.ensures.halts
+
+pub returns-clause-goes_on : goal.returns-clause-goes_on
+returns-clause-goes_on g c = g.met.H.Hall.goes_on_then _ _ _ c.places_for.ensures.goes_on c.look_for.ensures.goes_on

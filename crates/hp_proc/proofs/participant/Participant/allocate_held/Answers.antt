@@ -11,6 +11,7 @@ use Rattle.hp_proc.specs.Progress.{Tries}
 use Rattle.hp_proc.specs.declared.searched_heap.SearchedHeap.{SearchedHeap}
 use Rattle.hp_serve.proofs.AskingFacts.AskedAlong.{on_err_any}
 use Rattle.hp_proc.proofs.AddressLies.{lies_none, lies_so}
+use Rattle.hp_proc.proofs.AllocAgrees.{agrees_again, agrees_first, agrees_missing, keeps_asked, keeps_searched}
 use Rattle.hp_proc.proofs.ChunkLies.{allocation_lies}
 use Rattle.hp_proc.proofs.HandFacts.BesideNames.{names_kept, names_same}
 use Rattle.hp_proc.proofs.HandFacts.HandAgain.{keeps_again, keeps_grown, lies_again}
@@ -18,6 +19,7 @@ use Rattle.hp_proc.proofs.HandFacts.HandAllocates.{keeps_alloc}
 use Rattle.hp_proc.proofs.HandFacts.HandCalls.{call_index, call_serves}
 use Rattle.hp_proc.proofs.HandFacts.HandSearched.{found_again, found_first, found_none, halted, passed, passed_external}
 use Rattle.hp_proc.proofs.HandFacts.Holds.{holds_on, room_called}
+use Rattle.hp_proc.proofs.ZoneAgrees.{agrees_passed}
 use Rattle.hp_proc.proofs.participant.Participant.allocate_held.Goals as goal
 
 -- the flags of the first search, as the names have the heap
@@ -79,6 +81,11 @@ returns-in-Some-clause-names g c = names_same c.args.self.now.party.me (g.H.Hall
 pub returns-in-Some-clause-goes_on : goal.returns-in-Some-clause-goes_on
 returns-in-Some-clause-goes_on g c = g.met.H.Hall.goes_on_same _
 
+pub returns-in-Some-clause-agrees : goal.returns-in-Some-clause-agrees
+returns-in-Some-clause-agrees g c =
+    agrees_first c.args.self.now c.args.heap.now c.allocate_in.new.heap c.with_flags.result c.args.tag c.allocate_in.result (g.H.Hall.state c.args.hall.now) c.allocate_in.ensures.step
+    c.requires.holds c.in-Some.addr c.in-Some.is
+
 -- IT in-Some NONE IN EXTERNAL MEMORY
 
 pub returns-in_default-clause-does : goal.returns-in_default-clause-does
@@ -111,6 +118,11 @@ returns-in_default-clause-names g c = names_same c.args.self.now.party.me (g.H.H
 
 pub returns-in_default-clause-goes_on : goal.returns-in_default-clause-goes_on
 returns-in_default-clause-goes_on g c = g.met.H.Hall.goes_on_same _
+
+pub returns-in_default-clause-agrees : goal.returns-in_default-clause-agrees
+returns-in_default-clause-agrees g c =
+    agrees_passed (keeps_searched c.args.self.now c.args.heap.now c.allocate_in.new.heap c.with_flags.result c.args.tag c.allocate_in.result (g.H.Hall.state c.args.hall.now) c.allocate_in.ensures.step
+    c.requires.holds c.allocate_in.ensures.none c.in_default.is)
 
 -- PAGES ARE ASKED FOR
 
@@ -179,6 +191,12 @@ returns-in_err-grow-clause-names g c = names_kept (keeps_grown c.args.self.now c
 pub returns-in_err-grow-clause-goes_on : goal.returns-in_err-grow-clause-goes_on
 returns-in_err-grow-clause-goes_on g c = c.grow.ensures.goes_on
 
+pub returns-in_err-grow-clause-agrees : goal.returns-in_err-grow-clause-agrees
+returns-in_err-grow-clause-agrees g c =
+    agrees_passed (keeps_asked c.args.self.now c.args.heap.now c.allocate_in.new.heap c.with_flags.result c.args.tag c.allocate_in.result (g.H.Hall.state c.args.hall.now) c.allocate_in.ensures.step
+    c.requires.holds c.allocate_in.ensures.none c.in_default.is c.allocate_in.new.self c.grow.new.self c.grow.new.heap (g.H.Hall.state c.grow.new.hall)
+    (ap (λ (doer : ParticipantView). doer.party.me) c.allocate_in.ensures.counted) c.grow.ensures.keeps c.grow.ensures.says)
+
 -- NONE WERE c.if-branch.false
 
 pub returns-if-clause-does : goal.returns-if-clause-does
@@ -227,6 +245,12 @@ returns-if-clause-names g c = names_kept (keeps_grown c.args.self.now c.allocate
 
 pub returns-if-clause-goes_on : goal.returns-if-clause-goes_on
 returns-if-clause-goes_on g c = c.grow.ensures.goes_on
+
+pub returns-if-clause-agrees : goal.returns-if-clause-agrees
+returns-if-clause-agrees g c =
+    agrees_passed (keeps_asked c.args.self.now c.args.heap.now c.allocate_in.new.heap c.with_flags.result c.args.tag c.allocate_in.result (g.H.Hall.state c.args.hall.now) c.allocate_in.ensures.step
+    c.requires.holds c.allocate_in.ensures.none c.in_default.is c.allocate_in.new.self c.grow.new.self c.grow.new.heap (g.H.Hall.state c.grow.new.hall)
+    (ap (λ (doer : ParticipantView). doer.party.me) c.allocate_in.ensures.counted) c.grow.ensures.keeps c.grow.ensures.says)
 
 -- SOME WERE, AND IT IS SEARCHED AGAIN
 
@@ -295,6 +319,13 @@ returns-in-Some-clause-names g c = names_kept (keeps_again c.args.self.now c.all
 pub returns-in-Some-clause-goes_on : goal.returns-in-Some-clause-goes_on
 returns-in-Some-clause-goes_on g c = c.grow.ensures.goes_on
 
+pub returns-in-Some-clause-agrees : goal.returns-in-Some-clause-agrees
+returns-in-Some-clause-agrees g c =
+    agrees_again c.args.self.now c.args.heap.now c.allocate_in.new.heap c.with_flags.result c.args.tag c.allocate_in.result (g.H.Hall.state c.args.hall.now) c.allocate_in.ensures.step
+    c.requires.holds c.allocate_in.ensures.none c.in_default.is c.allocate_in.new.self c.grow.new.self c.grow.new.heap (g.H.Hall.state c.grow.new.hall)
+    (ap (λ (doer : ParticipantView). doer.party.me) c.allocate_in.ensures.counted) c.grow.ensures.keeps c.grow.ensures.says
+    c.args.request.now c.allocate_in-2.result c.allocate_in-2.new.heap c.allocate_in-2.ensures.step c.in-Some-3.addr c.in-Some-3.is
+
 pub returns-in-None-clause-does : goal.returns-in-None-clause-does
 returns-in-None-clause-does g c = λ its heaps named.
     let place = c.args.place.now in
@@ -344,3 +375,10 @@ returns-in-None-clause-names g c = names_kept (keeps_again c.args.self.now c.all
 
 pub returns-in-None-clause-goes_on : goal.returns-in-None-clause-goes_on
 returns-in-None-clause-goes_on g c = c.grow.ensures.goes_on
+
+pub returns-in-None-clause-agrees : goal.returns-in-None-clause-agrees
+returns-in-None-clause-agrees g c =
+    agrees_missing c.args.self.now c.args.heap.now c.allocate_in.new.heap c.with_flags.result c.args.tag c.allocate_in.result (g.H.Hall.state c.args.hall.now) c.allocate_in.ensures.step
+    c.requires.holds c.allocate_in.ensures.none c.in_default.is c.allocate_in.new.self c.grow.new.self c.grow.new.heap (g.H.Hall.state c.grow.new.hall)
+    (ap (λ (doer : ParticipantView). doer.party.me) c.allocate_in.ensures.counted) c.grow.ensures.keeps c.grow.ensures.says
+    c.args.request.now c.allocate_in-2.result c.allocate_in-2.new.heap c.allocate_in-2.ensures.step c.allocate_in-2.ensures.none c.in-None.is

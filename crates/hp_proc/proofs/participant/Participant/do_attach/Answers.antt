@@ -12,7 +12,8 @@ use Rattle.hp_script.specs.declared.answer.Answer.TheVariants as answer
 use Rattle.hp_proc.specs.Contexts.{Context}
 use Rattle.hp_proc.specs.Courses.{standing_tried}
 use Rattle.hp_proc.specs.ParticipantView.{ParticipantView}
-use Rattle.hp_proc.proofs.AttachedLines.{attached_same, joined_by, joined_still, known_none, line_already, line_tried, ready_noted, refused_failed, tried_chunks, tried_joined}
+use Rattle.hp_proc.proofs.AttachedLines.{attached_same, joined_by, joined_still, line_already, line_tried, refused_failed, tried_chunks, tried_joined}
+use Rattle.hp_proc.proofs.ChangedLines.{known_none, ready_noted}
 use Rattle.hp_proc.proofs.HandFacts.HandGiven.{ready_still}
 use Rattle.hp_hall.proofs.HallStates.{did_same}
 use Rattle.hp_script.specs.declared.line.Act.TheVariants as act
@@ -146,8 +147,7 @@ returns-in_err-caught-clause-halts g c =
     let tree : Doing = doing_of line line.act facts in
     let halts : HaltsLineHere me doer doer old new line =
     line_halted old.count (did_in me old new) line (moment me doer old) (moment me doer new) facts
-    (known_none doer.party.socket doer.context line act.Attach c.requires.act tt) tree refl refl
-    (
+    (known_none doer.party.socket doer.context line act.Attach c.requires.act tt) tree refl refl (
       [],
       once_none,
       halts_by [] old.count (did_in me old new) tree (moment me doer old) (moment me doer new)

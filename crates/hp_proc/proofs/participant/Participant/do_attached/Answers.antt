@@ -1,5 +1,5 @@
 -- Each line that only who is attached does is done as its kind is.
-use Rattle.std.proofs.Common.{◌≡◌, ◌∙◌, ◌+◌, ◌≤◌, ℕ, ap, sym, subst, arith}
+use Rattle.std.proofs.Common.{◌≡◌, ◌∙◌, ◌+◌, ◌≤◌, ℕ, ap, refl, sym, subst, arith}
 use Rattle.std.specs.Prelude.{IfOk, Result, Ok, Err, ⊤}
 use Rattle.hp_script.specs.declared.answer.Answer.{Answer}
 use Rattle.hp_script.specs.declared.line.Act.{Act}
@@ -77,3 +77,37 @@ returns-in-Stats-clause-lies g c =
 
 pub returns-in-Stats-clause-clock : goal.returns-in-Stats-clause-clock
 returns-in-Stats-clause-clock g c = λ one. still_within _ _ _ (c.do_stats.ensures.clock one)
+
+pub returns-in-Watch-clause-does : goal.returns-in-Watch-clause-does
+returns-in-Watch-clause-does g c =
+    let registers : IsRegistering c.args.line.now.act = search rules in
+    here_registered c.do_registering-in-Watch.result c.args.self.now c.do_registering-in-Watch.new.self (g.H.Hall.state c.args.hall.now) c.args.line.now c.args.line.now.act
+    refl registers c.requires.attached c.do_registering-in-Watch.ensures.given c.do_registering-in-Watch.ensures.left
+
+pub returns-in-Watch-clause-halts : goal.returns-in-Watch-clause-halts
+returns-in-Watch-clause-halts g c =
+    let registers : IsRegistering c.args.line.now.act = search rules in
+    here_halts c.do_registering-in-Watch.result c.args.self.now c.do_registering-in-Watch.new.self (g.H.Hall.state c.args.hall.now) c.args.line.now c.args.line.now.act
+    refl registers c.do_registering-in-Watch.ensures.err
+
+pub returns-in-Watch-clause-ready : goal.returns-in-Watch-clause-ready
+returns-in-Watch-clause-ready g c =
+    here_again c.do_registering-in-Watch.result c.args.self.now c.do_registering-in-Watch.new.self (g.H.Hall.state c.args.hall.now) c.args.line.now c.args.line.now.act
+    c.do_registering-in-Watch.ensures.left c.do_registering-in-Watch.ensures.err c.requires.ready
+
+pub returns-in-Limit-clause-does : goal.returns-in-Limit-clause-does
+returns-in-Limit-clause-does g c =
+    let registers : IsRegistering c.args.line.now.act = absurd c.in-Limit.is in
+    here_registered c.do_registering.result c.args.self.now c.do_registering.new.self (g.H.Hall.state c.args.hall.now) c.args.line.now c.args.line.now.act
+    refl registers c.requires.attached c.do_registering.ensures.given c.do_registering.ensures.left
+
+pub returns-in-Limit-clause-halts : goal.returns-in-Limit-clause-halts
+returns-in-Limit-clause-halts g c =
+    let registers : IsRegistering c.args.line.now.act = search rules in
+    here_halts c.do_registering.result c.args.self.now c.do_registering.new.self (g.H.Hall.state c.args.hall.now) c.args.line.now c.args.line.now.act
+    refl registers c.do_registering.ensures.err
+
+pub returns-in-Limit-clause-ready : goal.returns-in-Limit-clause-ready
+returns-in-Limit-clause-ready g c =
+    here_again c.do_registering.result c.args.self.now c.do_registering.new.self (g.H.Hall.state c.args.hall.now) c.args.line.now c.args.line.now.act
+    c.do_registering.ensures.left c.do_registering.ensures.err c.requires.ready

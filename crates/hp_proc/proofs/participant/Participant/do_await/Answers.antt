@@ -58,8 +58,8 @@ no_scale scale lines was known found can grown at_least few =
 
 -- ENOUGH ARE DONE
 
-pub returns-then-load_done : goal.returns-then-load_done
-returns-then-load_done g c =
+pub returns-then-load_done-lines : goal.returns-then-load_done-lines
+returns-then-load_done-lines g c =
     let was = c.awaiting.invariant in
     let is = c.load_done.ensures in
     let doer = c.args.self.now in
@@ -76,7 +76,7 @@ returns-then-load_done g c =
     let asks = all.waits.later.heard me in
     record {
       does = await_done old.count (λ (steps : List MailStep). Did me steps old late) c.args.other c.args.lines found (moment me doer old)
-          (moment me c.awaiting.self late) was.waited.0 c.if-load_done.true c.args.line.now c.requires.act refl refl
+          (moment me c.awaiting.self late) was.waited.0 c.if-load_done-lines.true c.args.line.now c.requires.act refl refl
           (did_then was.waited.1 (in_did was.stays (subst (λ (who : ℕ). Did who last mid late) here is.loaded.did)))
           (looked_up was.waited.0 c.args.other found was.waited.2) (λ heap. ap (λ (part : HeapPart). part.entries) (all.waits.parts.part heap))
           (λ heap. ap (λ (part : HeapPart). part.serves) (all.waits.parts.part heap)) all.same was.context was.asked log.0 log.1 asks.0 asks.1;
@@ -135,7 +135,7 @@ turn-requires g c =
     let was = c.awaiting.invariant in
     let is = c.load_done.ensures in
     let zero = no_scale g.H.Hall.scale c.args.lines _ _ c.load_done.result c.requires.can (was.stays.waits.later.lines c.args.other) is.loaded.known
-    c.if-load_done.false in
+    c.if-load_done-lines.false in
     record {
       can = in_can
           (in_others c.awaiting.self.party c.number.ensures is.loaded.stays.slots is.loaded.stays.mine is.loaded.stays.others.later
@@ -176,7 +176,7 @@ awaiting-preserved g c =
     let found = c.load_done.result in
     let last = Notes (LoadedDone c.args.other found) ∷ [] in
     let zero = no_scale g.H.Hall.scale c.args.lines _ _ found c.requires.can (was.stays.waits.later.lines c.args.other) loads.loaded.known
-    c.if-load_done.false in
+    c.if-load_done-lines.false in
     let paused = c.in_ok-turn.ensures.paused.0 in
     record {
       waited = (

@@ -1,7 +1,8 @@
 -- One that is out does nothing; else it leaves all chunks, and then the roster, and notes that.
-use Rattle.std.proofs.Common.{◌≡◌, ◌∙◌, ◌<◌, ℕ, [], None, ap, arith, refl, subst, sym}
+use Rattle.std.proofs.Common.{◌≡◌, ◌≢◌, ◌∙◌, ◌<◌, ℕ, [], None, ap, arith, refl, subst, sym}
+use Rattle.std.proofs.lemmas.Bool.{false≢true}
 use Rattle.hp_hall.proofs.HallStates.{did_same}
-use Rattle.hp_proc.proofs.AttachedLines.{known_none}
+use Rattle.hp_proc.proofs.ChangedLines.{known_none}
 use Rattle.hp_proc.proofs.DetachedLines.{joined_left, joined_out, line_detached, line_left, tree_left}
 use Rattle.hp_proc.proofs.DetachesHere.{alone_all, does_gone, left_same, may_leave, noted_standing, ready_then}
 use Rattle.hp_proc.proofs.Halted.{halts_of, line_halted}
@@ -62,14 +63,18 @@ returns-in_err-leave_all-clause-halts g c =
     line_halted old.count (did_in me old new) line (moment me doer old) (moment me c.leave_all.new.self new)
     (facts_for doer.party.socket doer.context line.act None) (known_none doer.party.socket doer.context line act.Detach c.requires.act tt)
     (leaving_all doer.context.standing.chunks) (tree_left line c.requires.act doer attached) refl c.in_err-leave_all.ensures.halts in
-    on_err_any c.from_residual.result _ halts
+    on_err_any _ _ halts
 
 pub returns-in_err-leave_all-clause-err : goal.returns-in_err-leave_all-clause-err
 returns-in_err-leave_all-clause-err g c =
-    on_err_any c.from_residual.result _ (λ (none : c.args.self.now.context.standing.chunks ≡ []). absurd (c.in_err-leave_all.ensures.alone none).0)
+    let doer = c.args.self.now in
+    let so : doer.context.standing.chunks ≡ [] → (doer.party.listeners ≢ []) × (c.leave_all.new.self ≡ doer)
+    × (c.leave_all.new.hall ≡ c.args.hall.now) =
+    λ none. absurd (false≢true (c.in_err-leave_all.ensures.alone none).0) in
+    on_err_any _ _ so
 
 pub returns-in_err-leave_all-clause-alone : goal.returns-in_err-leave_all-clause-alone
-returns-in_err-leave_all-clause-alone g c = λ none. absurd (c.in_err-leave_all.ensures.alone none).0
+returns-in_err-leave_all-clause-alone g c = λ none. absurd (false≢true (c.in_err-leave_all.ensures.alone none).0)
 
 -- IT LEAVES THE ROSTER
 
@@ -77,11 +82,10 @@ pub detach-requires : goal.detach-requires
 detach-requires g c =
     let doer = c.args.self.now in
     let is = c.leave_all.ensures in
-    let alone = λ (none : doer.context.standing.chunks ≡ []). let so = is.alone none in (so.1, so.2) in
     let may =
-    may_leave g.H.Hall.state c.args.hall.now c.leave_all.new.hall doer c.leave_all.new.self c.requires.may is.ready alone
+    may_leave g.H.Hall.state c.args.hall.now c.leave_all.new.hall doer c.leave_all.new.self c.requires.may is.ready (λ none. ((is.alone none).1, (is.alone none).2))
     c.in_ok-leave_all.ensures.left in
-    let same = left_same g.H.Hall.state c.args.hall.now c.leave_all.new.hall doer c.leave_all.new.self c.requires.may is.ready alone in
+    let same = left_same g.H.Hall.state c.args.hall.now c.leave_all.new.hall doer c.leave_all.new.self c.requires.may is.ready (λ none. ((is.alone none).1, (is.alone none).2)) in
     record {
       secondary = subst (λ (who : ℕ). 0 < who) (sym same.me) c.requires.secondary;
       may = may.may;
@@ -106,14 +110,13 @@ returns-in_err-detach-clause-halts g c =
     let halts : HaltsLineHere me doer mid old new line =
     line_halted old.count (did_in me old new) line (moment me doer old) (moment me mid new)
     (facts_for doer.party.socket doer.context line.act None) (known_none doer.party.socket doer.context line act.Detach c.requires.act tt)
-    (leaving_all doer.context.standing.chunks) (tree_left line c.requires.act doer attached) refl
-    (
+    (leaving_all doer.context.standing.chunks) (tree_left line c.requires.act doer attached) refl (
       left.held,
       left.once,
       halts_of old.count (did_in me old new) (leaving_all doer.context.standing.chunks) (Doing.Ended answer.Done) (moment me doer old)
           (moment me mid new) left.does,
     ) in
-    on_err_any c.from_residual.result _
+    on_err_any _ _
     (subst (λ (after : ParticipantView). HaltsLineHere me doer after old (g.H.Hall.state c.detach.new.hall) line) (sym is.0)
     (subst (λ late. HaltsLineHere me doer mid old (g.H.Hall.state late) line) (sym is.2) halts))
 
@@ -134,15 +137,17 @@ returns-in_err-detach-clause-alone g c = λ none.
 
 pub returns-in_err-detach-clause-err : goal.returns-in_err-detach-clause-err
 returns-in_err-detach-clause-err g c =
+    let doer = c.args.self.now in
     let is = c.in_err-detach.ensures.err in
-    on_err_any c.from_residual.result _
-    (λ (none : c.args.self.now.context.standing.chunks ≡ []).
-    let so = c.leave_all.ensures.alone none in
-    (
-      λ (empty : c.args.self.now.party.listeners ≡ []). is.1 (ap (λ (d : ParticipantView). d.party.listeners) so.1 ∙ empty),
-      is.0 ∙ so.1,
-      is.2 ∙ so.2,
-    ))
+    let so : doer.context.standing.chunks ≡ [] → (doer.party.listeners ≢ []) × (c.detach.new.self ≡ doer)
+    × (c.detach.new.hall ≡ c.args.hall.now) =
+    λ none.
+    let left = c.leave_all.ensures.alone none in (
+      λ (empty : doer.party.listeners ≡ []). is.1 (ap (λ (d : ParticipantView). d.party.listeners) left.1 ∙ empty),
+      is.0 ∙ left.1,
+      is.2 ∙ left.2,
+    ) in
+    on_err_any _ _ so
 
 pub returns-in_err-detach-clause-ready : goal.returns-in_err-detach-clause-ready
 returns-in_err-detach-clause-ready g c = λ ready.
@@ -176,8 +181,7 @@ returns g c =
     let standing = c.in_ok-leave_all.ensures.left in
     let detaches = c.in_ok-detach.ensures.ok in
     let noted = c.note_detached.ensures.noted in
-    let alone = λ (none : doer.context.standing.chunks ≡ []). let so = is.alone none in (so.1, so.2) in
-    let same = left_same g.H.Hall.state first second doer mid c.requires.may is.ready alone in
+    let same = left_same g.H.Hall.state first second doer mid c.requires.may is.ready (λ none. ((is.alone none).1, (is.alone none).2)) in
     let count = (g.met.H.Hall.goes_on_later _ _ is.goes_on).count in
     let clock = out.stays.others.clock in
     let attached =
@@ -187,17 +191,17 @@ returns g c =
       does =
           line_left c.args.line.now c.requires.act doer mid after old (g.H.Hall.state second) (g.H.Hall.state third) attached same count
           c.in_ok-leave_all.ensures.does standing
-          (does_gone g.H.Hall.state first second doer mid c.requires.may is.ready alone standing gone after third c.requires.secondary detaches out.tied
+          (does_gone g.H.Hall.state first second doer mid c.requires.may is.ready (λ none. ((is.alone none).1, (is.alone none).2)) standing gone after third c.requires.secondary detaches out.tied
           out.context out.stays noted (Doing.Ended answer.Done))
-          (noted_standing g.H.Hall.state first second doer mid c.requires.may is.ready alone standing gone after third c.requires.secondary detaches
+          (noted_standing g.H.Hall.state first second doer mid c.requires.may is.ready (λ none. ((is.alone none).1, (is.alone none).2)) standing gone after third c.requires.secondary detaches
           out.tied out.context out.stays noted);
       halts = tt;
       roster = subst (λ (who : ℕ). (g.H.Hall.state third).joined who ≡ attached_after c.args.line.now.act answer.Done (old.joined me)) same.me
           (joined_left c.args.line.now.act (old.joined me) ((g.H.Hall.state third).joined mid.party.me) c.requires.act detaches.left.roster);
-      alone = alone_all g.H.Hall.state first second doer mid c.requires.may is.ready alone standing gone after third c.requires.secondary detaches
+      alone = alone_all g.H.Hall.state first second doer mid c.requires.may is.ready (λ none. ((is.alone none).1, (is.alone none).2)) standing gone after third c.requires.secondary detaches
           out.tied out.context out.stays noted;
       err = tt;
-      ready = ready_then g.H.Hall.state first second doer mid c.requires.may is.ready alone standing gone after third c.requires.secondary detaches
+      ready = ready_then g.H.Hall.state first second doer mid c.requires.may is.ready (λ none. ((is.alone none).1, (is.alone none).2)) standing gone after third c.requires.secondary detaches
           out.tied out.context out.stays noted;
       clock = λ one. omega (arith, is.clock one, clock);
       goes_on = g.met.H.Hall.goes_on_then _ _ _ is.goes_on out.goes_on;

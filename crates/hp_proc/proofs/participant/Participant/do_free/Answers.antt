@@ -1,5 +1,5 @@
 -- What a free does is what its facts say.
-use Rattle.std.proofs.Common.{◌≡◌, ◌∙◌, ℕ, Bool, true, None, ap, sym, subst}
+use Rattle.std.proofs.Common.{◌≡◌, ◌∙◌, ℕ, Bool, true, None, refl, ap, sym, subst}
 use Rattle.std.proofs.lemmas.Result.{on_err_weaker}
 use Rattle.hp_script.specs.declared.line.Act.{Act}
 use Rattle.hp_script.specs.declared.line.Act.TheVariants as act

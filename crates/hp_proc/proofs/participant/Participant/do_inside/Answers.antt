@@ -4,6 +4,7 @@ use Rattle.std.specs.Prelude.{◌^◌}
 use Rattle.hp_base.specs.declared.limits.TheConstants.{MAX_DEADLINE}
 use Rattle.hp_hall.proofs.HallStates.{did_same}
 use Rattle.hp_serve.specs.Clocks.{longest_allocation}
+use Rattle.hp_serve.specs.Party.{Party}
 use Rattle.hp_proc.specs.LineInHall.{did_in, moment}
 use Rattle.hp_proc.specs.ParticipantView.{ParticipantView}
 use Rattle.hp_proc.proofs.HandFacts.Holds.{again_line}
@@ -27,10 +28,9 @@ alloc_within : (deadline old new : ℕ) → deadline ≤ MAX_DEADLINE → new �
 alloc_within deadline old new few rises = omega (arith, few, rises)
 
 -- its own deadline is one that a workload may have
-few_of : (doer inside : ParticipantView) (deadline : ℕ) → inside ≡ doer → deadline ≡ inside.party.deadline → deadline ≤ MAX_DEADLINE
-    → doer.party.deadline ≤ MAX_DEADLINE
-few_of doer inside deadline view is few =
-    subst (λ (deadline : ℕ). deadline ≤ MAX_DEADLINE) (is ∙ ap (λ (doer : ParticipantView). doer.party.deadline) view) few
+few_of : (party mine : Party) (deadline : ℕ) → party ≡ mine → deadline ≡ party.deadline → deadline ≤ MAX_DEADLINE → mine.deadline ≤ MAX_DEADLINE
+few_of party mine deadline its is few =
+    subst (λ (deadline : ℕ). deadline ≤ MAX_DEADLINE) (is ∙ ap (λ (party : Party). party.deadline) its) few
 
 pub do_attached-requires-clause-attached : goal.do_attached-requires-clause-attached
 do_attached-requires-clause-attached g c =
@@ -40,6 +40,4 @@ do_attached-requires-clause-attached g c =
 pub returns-clause-clock : goal.returns-clause-clock
 returns-clause-clock g c = λ one.
     alloc_within _ _ _
-    (few_of _ _ _ c.self.view_is
-    ((rw c.deref.ensures at c.deadline-deadline.ensures.deadline) ∙ ap (λ inside. inside.judged.value.server.deadline) c.self-inside.view_is)
-    c.deadline-deadline.ensures.few) (c.do_attached.ensures.clock one)
+    (few_of _ _ _ c.server.ensures c.deadline-deadline.ensures.deadline c.deadline-deadline.ensures.few) (c.do_attached.ensures.clock one)

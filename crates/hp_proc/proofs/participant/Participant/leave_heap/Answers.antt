@@ -22,7 +22,7 @@ pub hold-requires-clause-beside : goal.hold-requires-clause-beside
 hold-requires-clause-beside g c = inl (c.requires.ready.idle.free NAMES_SLOT)
 
 pub leave_held-requires-clause-first : goal.leave_held-requires-clause-first
-leave_held-requires-clause-first g c = stood c.hold.ensures.context c.in_ok-heap.ensures.hand.index c.requires.first
+leave_held-requires-clause-first g c = stood c.args.self.now c.hold.new.self c.in_ok-heap.heap c.hold.ensures.context c.in_ok-heap.ensures.hand.index c.requires.first
 
 pub leave_held-requires-clause-noted : goal.leave_held-requires-clause-noted
 leave_held-requires-clause-noted g c =
@@ -37,7 +37,7 @@ pub leave_held-requires-clause-room : goal.leave_held-requires-clause-room
 leave_held-requires-clause-room g c =
     let heap = c.in_ok-heap.heap in
     let many =
-    c.chunks_in.ensures
+    c.chunks_in-calls.ensures
     ∙ (ap (λ (doer : ParticipantView). length (chunks_of c.args.index doer.context.standing.chunks)) c.self.view_is
     ∙ (ap (λ (at : ℕ). length (chunks_of at c.args.self.now.context.standing.chunks)) (sym c.in_ok-heap.ensures.hand.index)
     ∙ ap (λ (context : Context). length (chunks_of heap.plain.index context.standing.chunks)) (sym c.hold.ensures.context))) in
@@ -88,9 +88,9 @@ returns g c =
           (mine hold.same hold.context c.requires.few hold.slots hand chunks left c.requires.ready) count
           (does_next me (moment me doer first) (λ who. moment_with heap who mid second) (λ who. moment_with next who after second) hold.same.me count
           (took.did (leaving_all doer.context.standing.chunks))
-          (does_left hold.context hand.index c.requires.first left c.leave_held.ensures.others))
+          (does_left doer mid after heap next hold.context hand.index c.requires.first left c.leave_held.ensures.others))
           (put.does (leaving_all after.context.standing.chunks));
-      left = standing_left hold.context hand.index c.requires.first left c.leave_held.ensures.others;
+      left = standing_left doer mid after heap next hold.context hand.index c.requires.first left c.leave_held.ensures.others;
       halts = tt;
       ready = back_left hold.same hold.context c.requires.few hold.slots hand chunks left c.requires.ready put.marks put.tied put.ready put.table
           put.agreed put.free put.slots put.others;

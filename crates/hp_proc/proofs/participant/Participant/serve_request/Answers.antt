@@ -21,6 +21,7 @@ use Rattle.hp_proc.specs.Contexts.{Context, IsPlaceOf}
 use Rattle.hp_proc.specs.Doing.{Doing}
 use Rattle.hp_proc.specs.Heaps.{NamedHeap}
 use Rattle.hp_proc.specs.LineInHall.{HaltsHere, HasNamesOut, IsKnownMapped, IsReadyBut, MayGiveBeside, did_in, moment}
+use Rattle.hp_proc.specs.ParticipantView.{ParticipantView}
 use Rattle.hp_proc.specs.PlaceLists.{place_named}
 use Rattle.hp_proc.specs.Progress.{AreOnce, Brings, Does, Moment, Tries}
 use Rattle.hp_proc.specs.ZonesInHand.{AgreeOnceAnswered, answer_of}
@@ -249,7 +250,7 @@ loop-place-preserved g c =
       called = beside_then was.called one.ready was.called.same.me;
       agrees = λ names agree.
           subst (λ (who : ℕ). AgreeWith (third.part who) names) was.called.same.me
-          (one.agrees.still names (inr (no_address (answer_of c.try_heap.result) (ap answer_of c.in_ok-answer.is ∙ c.in_default.is)))
+          (one.agrees.still names (inr (no_address (answer_of c.try_heap.result) (ap answer_of c.in_ok-answer.was ∙ c.in_default.is)))
           (subst (λ (who : ℕ). AgreeWith (second.part who) names) (sym was.called.same.me) (was.agrees names agree)));
       goes_on = g.met.H.Hall.goes_on_then _ _ _ was.goes_on one.goes_on;
       along = omega (arith, within);
@@ -304,7 +305,7 @@ returns-in-Some-clause-agrees g c =
     agrees_then was.agrees
     (subst (λ (who : ℕ). AgreeOnceAnswered c.args.tag (Some c.in-Some.answer) index (second.part who) (third.part who)) was.called.same.me
     (subst (λ (given : Option Answer). AgreeOnceAnswered c.args.tag given index (second.part tried.party.me) (third.part tried.party.me))
-    (ap answer_of c.in_ok-answer.is ∙ c.in-Some.is) c.try_heap.ensures.agrees))
+    (ap answer_of c.in_ok-answer.was ∙ c.in-Some.is) c.try_heap.ensures.agrees))
 
 pub returns-in-Some-clause-goes_on : goal.returns-in-Some-clause-goes_on
 returns-in-Some-clause-goes_on g c = g.met.H.Hall.goes_on_then _ _ _ c.loop-place.invariant.goes_on c.try_heap.ensures.goes_on
@@ -376,7 +377,7 @@ returns-in_err-answer-clause-agrees g c =
     let third = g.H.Hall.state c.try_heap.new.hall in
     agrees_none (no_address None refl) (λ names agree.
     subst (λ (who : ℕ). AgreeWith (third.part who) names) was.called.same.me
-    (c.try_heap.ensures.agrees.still names (inr (no_address (answer_of c.try_heap.result) (ap answer_of c.in_err-answer.is)))
+    (c.try_heap.ensures.agrees.still names (inr (no_address (answer_of c.try_heap.result) (ap answer_of c.in_err-answer.was)))
     (subst (λ (who : ℕ). AgreeWith (second.part who) names) (sym was.called.same.me) (was.agrees names agree))))
 
 pub returns-in_err-answer-clause-halts : goal.returns-in_err-answer-clause-halts

@@ -115,16 +115,13 @@ returns-in-Ok g c =
           entries serves was.stays.same was.context was.asked seen.0 seen.1 heard.0 heard.1);
       sees = λ external goes.
           subst (λ (index : ℕ). SeesHeap index me doer c.taking.self heap old new goes) shown.index
-          (record {
-            does = does_seen old.count (λ (steps : List MailStep). Did me steps old new) heap goes (moment me doer old)
-                (in_hand heap (moment me c.taking.self new)) steps external shown.sound did
-                (Acts.and_then None None (Some heap.plain.index) [] (heap.plain.index ∷ []) doer c.taking.self c.taking.self []
-                (HeapSeen heap.plain.index heap.history ∷ []) was.waited.0 (Takes heap.plain.index (Heap heap pen) ∷ []) was.waited.2
-                (Acts.sees_heap c.taking.self heap pen shown.few))
-                entries serves was.stays.same was.context was.asked seen.0 seen.1 heard.0 heard.1;
-            history = heap.history;
-            alone = refl;
-          });
+          (let seen_as = does_seen old.count (λ (steps : List MailStep). Did me steps old new) heap goes (moment me doer old)
+          (in_hand heap (moment me c.taking.self new)) steps external shown.sound did
+          (Acts.and_then None None (Some heap.plain.index) [] (heap.plain.index ∷ []) doer c.taking.self c.taking.self []
+          (HeapSeen heap.plain.index heap.history ∷ []) was.waited.0 (Takes heap.plain.index (Heap heap pen) ∷ []) was.waited.2
+          (Acts.sees_heap c.taking.self heap pen shown.few))
+          entries serves was.stays.same was.context was.asked seen.0 seen.1 heard.0 heard.1 in
+          record { does = seen_as.0; history = heap.history; alone = seen_as.1 });
       hand = record {
         holds = record {
           can = record {
@@ -151,7 +148,7 @@ returns-in-Ok g c =
         };
         index = shown.index;
         taken_with = record { heap = heap; out = out };
-        as_taken = record { was = heap; pen = pen; out = out; same = refl };
+        as_taken = record { was = heap; pen = pen; out = out; same = refl; left = refl };
       };
       same = was.stays.same;
       context = was.context;

@@ -7,7 +7,10 @@ use Rattle.hp_script.specs.declared.answer.Answer.{Answer}
 use Rattle.hp_hall.proofs.HallStates.{did_then}
 use Rattle.hp_proc.specs.Allocating.{trying, unless_answered}
 use Rattle.hp_proc.specs.Contexts.{Context}
+use Rattle.hp_proc.specs.NamesInHand.{KeepsAgreed}
 use Rattle.hp_proc.specs.PlaceLists.{place_named}
+use Rattle.hp_proc.specs.ZonesInHand.{AgreeOnceAnsweredIn, answer_of}
+use Rattle.hp_heap.specs.History.{entries_of}
 use Rattle.hp_proc.specs.Heaps.{NamedHeap, sockets_of}
 use Rattle.hp_serve.proofs.AskingFacts.AskedAlong.{on_err_any}
 use Rattle.hp_proc.specs.Halting.{Halts}
@@ -15,6 +18,7 @@ use Rattle.hp_proc.specs.LineInHall.{HaltsHeld, HaltsHere, HasNamesOut, HoldsIn,
 use Rattle.hp_proc.specs.Progress.{Does, Tries, in_hand}
 use Rattle.hp_serve.proofs.AskingFacts.AskedAlong.{if_ok}
 use Rattle.hp_proc.proofs.AddressLies.{lies_still}
+use Rattle.hp_proc.proofs.AllocAgrees.{agrees_tried, put_entries}
 use Rattle.hp_proc.proofs.Halted.{halts_more, halts_on}
 use Rattle.hp_proc.proofs.HallMoments.{told_alike}
 use Rattle.hp_proc.proofs.HandFacts.HandTried.{tries_passed, tries_then}
@@ -23,6 +27,7 @@ use Rattle.hp_proc.proofs.HandFacts.HandAllocates.{out_still}
 use Rattle.hp_proc.proofs.HandFacts.HandMarks.{marks_given}
 use Rattle.hp_proc.proofs.HandFacts.HeldBack.{back_then, beside_then, held_then, with_then}
 use Rattle.hp_serve.specs.InHall.{marked_in}
+use Rattle.hp_proc.proofs.ZoneAgrees.{agrees_passed}
 use Rattle.hp_proc.proofs.participant.Participant.try_heap.Goals as goal
 
 pub hold-requires-clause-few : goal.hold-requires-clause-few
@@ -199,3 +204,31 @@ returns-clause-halts g c =
     (c.in_ok-heap.ensures.did doing) stopped in
     halts_on (place.index ∷ []) first third last new.party.me me (in_hand left) (λ moment. moment) new new (moment me old first) doing
     (c.allocate_held-given.ensures.keeps.remains.same.me ∙ mine) there_count front c.put.ensures.does) c.allocate_held-given.ensures.halts
+
+-- WHAT AGREES
+
+pub returns-in_err-heap-clause-agrees : goal.returns-in_err-heap-clause-agrees
+returns-in_err-heap-clause-agrees g c = agrees_passed c.in_err-heap.ensures.agreed
+
+pub returns-clause-agrees : goal.returns-clause-agrees
+returns-clause-agrees g c =
+    let me = c.args.self.now.party.me in
+    let tag = c.args.tag in
+    let index = c.args.place.now.index in
+    let new = c.allocate_held-given.new.self in
+    let first = g.H.Hall.state c.args.hall.now in
+    let second = g.H.Hall.state c.hold.new.hall in
+    let third = g.H.Hall.state c.allocate_held-given.new.hall in
+    let last = g.H.Hall.state c.put.new.hall in
+    let heap = c.in_ok-heap.heap in
+    let left = c.allocate_held-given.new.heap in
+    let keeps = c.allocate_held-given.ensures.keeps in
+    let mine : c.hold.new.self.party.me ≡ me = c.hold.ensures.same.me in
+    let here : new.party.me ≡ me = keeps.remains.same.me ∙ mine in
+    let given = answer_of c.allocate_held-given.result in
+    let at : left.plain.index ≡ index = keeps.index ∙ c.in_ok-heap.ensures.hand.index in
+    agrees_tried me tag given index heap left first second third last c.in_ok-heap.ensures.hand.index keeps.index c.in_ok-heap.ensures.agreed
+    (subst (λ (who : ℕ). AgreeOnceAnsweredIn who tag given heap left (second.part who) (third.part who)) mine c.allocate_held-given.ensures.agrees)
+    (subst (λ (who : ℕ). KeepsAgreed who left third last) here c.put.ensures.agreed)
+    (subst (λ (who : ℕ). (last.part who index).entries ≡ entries_of who left.history) here
+    (put_entries new left third last c.put.ensures.does index (sym at)))
