@@ -30,6 +30,7 @@ mod LeftHere
 pub mod LineEnds
 pub mod LineFacts
 pub mod LinesApart
+pub mod LinesFreed
 pub mod LinesInHall
 pub mod LinesOrdered
 pub mod Lookups

@@ -44,7 +44,7 @@ module _ {doer mid : ParticipantView} {names given : NamesView} {from at between
   me = doer.party.me
 
   -- it had the names once, and gave back what its changes leave of them
-  names_around : {new : ParticipantView} {heaps : List ℕ} (rest : Doing)
+  pub names_around : {new : ParticipantView} {heaps : List ℕ} (rest : Doing)
       → (did : DoesNamed heaps me mid new names given at between (goes (shared_of names)) rest)
       → NamesOfLine (does_around held gave slots others goes rest did).trace (does_around held gave slots others goes rest did).steps
   unfolding does_around

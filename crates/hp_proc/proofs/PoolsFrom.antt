@@ -32,7 +32,9 @@ over_others (line ∷ pools) socket page = tested (line.socket == socket) refl (
     tested : (b : Bool) → (line.socket == socket) ≡ b
         → has_pool (drop (position_or_len (is_of socket) pools) pools) socket page ≡ has_pool pools socket page
         → has_pool (drop (position_or_len (is_of socket) (line ∷ pools)) (line ∷ pools)) socket page ≡ has_pool (line ∷ pools) socket page
-    tested true is rest = rw is refl
+    tested true is rest =
+        let none : position_or_len (is_of socket) (line ∷ pools) ≡ 0 = rw is refl in
+        ap (λ (n : ℕ). has_pool (drop n (line ∷ pools)) socket page) none
     tested false is rest =
         let one : 1 + position_or_len (is_of socket) pools ≡ suc (position_or_len (is_of socket) pools) = omega arith in
         rw is (ap (λ (n : ℕ). has_pool (drop n (line ∷ pools)) socket page) one ∙ rest)

@@ -366,7 +366,7 @@ module _ (mid new : ParticipantView) (given : NamesView) (heap next : HeapView) 
         was = holds.was;
         taken = slots.taken NAMES_SLOT names_away ∙ holds.taken;
         sound = holds.sound;
-        goes_on = names_give_on {entries_in who between} {entries_in who to} {holds.was} {given} given_entries holds.goes_on;
+        goes_on = names_give_on {old = entries_in who between} {new = entries_in who to} {taken = holds.was} {given = given} given_entries holds.goes_on;
         agrees = agreed.agrees given holds.agrees;
         sockets = holds.sockets;
       }
@@ -390,7 +390,7 @@ module _ (old new : ParticipantView) (names : NamesView) {from to : HallState} (
         was = ready.was;
         taken = called.names.slot.taken ∙ ready.taken;
         sound = ready.sound;
-        goes_on = names_give_on {entries_in old.party.me from} {entries_in old.party.me to} {ready.was} {names}
+        goes_on = names_give_on {old = entries_in old.party.me from} {new = entries_in old.party.me to} {taken = ready.was} {given = names}
             (λ heap. (entries_for old.party.me heap (old.context.calls + 1) (calls_in is.trace), is.entries heap)) ready.goes_on;
         agrees = agreed names ready.agrees;
         sockets = ready.sockets ∙ sym (ap (λ (k : Context). sockets_of k.pools) called.context);

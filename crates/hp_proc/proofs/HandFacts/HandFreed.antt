@@ -283,7 +283,7 @@ module _ (doer mid last : ParticipantView) (names given : NamesView) (heap next 
             taken = slots.taken NAMES_SLOT ∙ has.taken;
             sound = sound;
             goes_on = gives_gone (entries_with own more to) has.was names given zone.name
-                (names_give_on {entries_with own heap from} {entries_with own more to} {has.was} {names}
+                (names_give_on {old = entries_with own heap from} {new = entries_with own more to} {taken = has.was} {given = names}
                 (λ (at : ℕ). (entries_for own at (doer.context.calls + 1) (calls_in freed_cut.does.trace), grown at)) has.goes_on)
                 frees.log heaps;
             agrees = held_agrees next more (from.part own) (to.part own)

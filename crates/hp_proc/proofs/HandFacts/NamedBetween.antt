@@ -1,7 +1,7 @@
 -- What was done with the names and a heap in hand, between taking that heap and giving it back.
 use Rattle.std.proofs.Common.{◌≡◌, ◌∙◌, ℕ, ◌+◌, ◌<◌, List, [], ◌∷◌, ◌++◌, length, Option, Some, refl, ap, sym, subst, arith}
 use Rattle.hp_base.specs.declared.limits.TheConstants.{MAX_HEAPS}
-use Rattle.hp_hall.proofs.HallStates.{did_then}
+use Rattle.hp_hall.proofs.HallStates.{did_same, did_then}
 use Rattle.hp_hall.specs.HallState.{HallState, OthersStay, SlotsStayBut}
 use Rattle.hp_hall.specs.Holding.{HeapPart}
 use Rattle.hp_hall.specs.Named.{GivesNames}
@@ -16,12 +16,13 @@ use Rattle.hp_proc.specs.Halting.{ActsOn}
 use Rattle.hp_proc.specs.Heaps.{sockets_of}
 use Rattle.hp_proc.specs.Histories.{entries_for}
 use Rattle.hp_proc.specs.LineInHall.{HaltsHere, HasCalledBeside, IsBesideTheNames, did_in, moment, moment_with}
-use Rattle.hp_proc.specs.NamesInHand.{AgreesStill, DoesNamed, DoesNamedHeld, HaltsNamed, HasCalledNamed, HasNamesBeside, IsReadyNamed, KeepsAgreed, KeepsNamed, TakesAgreed, entries_in, entries_with}
+use Rattle.hp_proc.specs.NamesInHand.{AgreesStill, DoesNamed, DoesNamedHeld, DoesNamedOnce, HaltsNamed, HasCalledNamed, HasNamesBeside, IsReadyNamed, KeepsAgreed, KeepsNamed, TakesAgreed, entries_in, entries_with}
 use Rattle.hp_proc.specs.NamesOfLines.{ChangesNames}
 use Rattle.hp_proc.specs.ParticipantView.{ParticipantView}
 use Rattle.hp_proc.specs.Progress.{Does, doer_at, with_hand}
 use Rattle.hp_proc.proofs.InHandUntold.{changes_between, changes_none, still_leads}
-use Rattle.hp_proc.proofs.Joining.{does_then}
+use Rattle.hp_proc.proofs.HandFacts.OnceHeld.{once_none}
+use Rattle.hp_proc.proofs.Joining.{does_same, does_still, does_then}
 use Rattle.hp_proc.proofs.NamesAround.{names_give_on}
 
 ended_leads : (trace : List Done) (rest : Doing) → Leads (Doing.Ended answer.Done) trace rest → trace ≡ []
@@ -65,7 +66,7 @@ pub stopped_gives : {heaps : List ℕ} {me : ℕ} {old new : ParticipantView} {f
     → GivesNames (entries_in me to) taken names
 stopped_gives {heaps} {me} {old} {new} {from} {to} {taken} {names} halts gives =
     let one = halts (Doing.Ended answer.Done) in
-    names_give_on {entries_in me from} {entries_in me to} {taken} {names}
+    names_give_on {old = entries_in me from} {new = entries_in me to} {taken = taken} {given = names}
     (λ (at : ℕ). (entries_for old.party.me at (old.context.calls + 1) (calls_in one.trace), one.entries at)) gives
 
 -- the names are in hand beside the heap that was taken
@@ -77,7 +78,7 @@ pub beside_taken : (first second : HallState) (doer mid : ParticipantView) (heap
 beside_taken first second doer mid heap index was names here took gives =
     let me = doer.party.me in
     let one = took (Doing.Ended answer.Done) in
-    names_give_on {entries_in me first} {entries_with me heap second} {was} {names}
+    names_give_on {old = entries_in me first} {new = entries_with me heap second} {taken = was} {given = names}
     (λ (at : ℕ). (entries_for me at (doer.context.calls + 1) (calls_in one.trace),
       subst (λ (who : ℕ). (with_hand who heap (second.part me) at).entries
       ≡ (first.part me at).entries ++ entries_for me at (doer.context.calls + 1) (calls_in one.trace)) here (one.entries at))) gives
@@ -127,7 +128,7 @@ module _ (first second third last : HallState) (doer mid after : ParticipantView
   pub alone_given : {was : NamesView} → GivesNames (entries_with me next third) was given → GivesNames (entries_in me last) was given
   alone_given {was} gives =
       let one = back (Doing.Ended answer.Done) in
-      names_give_on {entries_with me next third} {entries_in me last} {was} {given}
+      names_give_on {old = entries_with me next third} {new = entries_in me last} {taken = was} {given = given}
       (λ (at : ℕ). (entries_for after.party.me at (after.context.calls + 1) (calls_in one.trace),
         subst (λ (who : ℕ). (last.part me at).entries
         ≡ (with_hand who next (third.part me) at).entries ++ entries_for after.party.me at (after.context.calls + 1) (calls_in one.trace)) there
@@ -184,4 +185,13 @@ named_stopped {me} {doer} {after} {names} {first} {last} called ready still give
     sockets = ready.sockets ∙ sym (ap (λ (context : Context). sockets_of context.pools) called.context);
   };
   context = called.context;
+}
+
+-- nothing was done
+pub named_nothing : (me : ℕ) (doer : ParticipantView) (names : NamesView) (state : HallState) (doing : Doing)
+    → DoesNamedOnce me doer doer names names state state doing doing
+unfolding does_same does_still
+named_nothing me doer names state doing = record {
+  does = record { held = []; once = once_none; does = does_same state.count (did_in me state state) doing (moment me doer state) (did_same me state) };
+  names = changes_none names;
 }

@@ -17,7 +17,7 @@ loop-index-preserved c =
         ∙ (w.in_ok-push.ensures.items
         ∙ (ap (λ (before : List SearchedHeap). before ++ record { index = n; serves = w.served_by.result } ∷ []) c.loop-index.invariant
         ∙ (ap (λ (serves : Option ℕ). places_below plain n ++ record { index = n; serves = serves } ∷ []) w.served_by.ensures
-        ∙ sym (places_more plain n (Some (record { name = w.in-Some._name; socket = socket })) (ap option_flatten w.in-Some.ensures.named)))))
+        ∙ sym (places_more plain n (Some (record { name = w.in-Some._name.now; socket = socket })) (ap option_flatten w.in-Some.ensures.named)))))
       | in_default w ↦
         w.places-is
         ∙ (c.loop-index.invariant

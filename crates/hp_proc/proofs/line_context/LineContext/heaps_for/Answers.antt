@@ -1,5 +1,5 @@
 -- That of a socket, or all of them.
-use Rattle.std.proofs.Common.{◌∙◌, None, map, ap, sym}
+use Rattle.std.proofs.Common.{◌∙◌, None, ap, map, sym}
 use Rattle.hp_script.specs.declared.options.SocketChoice.{SocketChoice}
 use Rattle.hp_proc.specs.Heaps.{heaps_for, socket_heaps}
 use Rattle.hp_proc.specs.PlaceLists.{place_named}

@@ -55,8 +55,8 @@ returns-in-Some-clause-does g c = λ its heaps named.
     subst (λ (at : ℕ). Tries at [] a.count (did_in doer.party.me a a) (trying doer.context.pools request c.args.tag (its ∷ heaps))
     (trying doer.context.pools request c.args.tag heaps) (Some (gives.Address c.in-Some.addr)) (moment_with c.args.heap.now doer.party.me doer a)
     (moment_with c.allocate_in.new.heap doer.party.me c.allocate_in.new.self a)) (index_is its place named)
-    (found_first doer c.allocate_in.new.self a c.args.heap.now c.allocate_in.new.heap its request c.with_flags.result c.args.tag c.allocate_in.result
-    (asked_is its place request c.with_flags.result c.first_flags.result named c.first_flags.ensures c.with_flags.ensures) c.allocate_in.ensures.step
+    (found_first doer c.allocate_in.new.self a c.args.heap.now c.allocate_in.new.heap its request c.with_flags-first.result c.args.tag c.allocate_in.result
+    (asked_is its place request c.with_flags-first.result c.first_flags.result named c.first_flags.ensures c.with_flags-first.ensures) c.allocate_in.ensures.step
     c.allocate_in.ensures.counted (index_is its place named ∙ c.requires.its) heaps c.in-Some.addr c.in-Some.is)
 
 pub returns-in-Some-clause-lies : goal.returns-in-Some-clause-lies
@@ -64,7 +64,7 @@ returns-in-Some-clause-lies g c = λ given.
     let doer = c.args.self.now in
     let a = g.H.Hall.state c.args.hall.now in
     lies_so doer.party.me a (gives.Address c.in-Some.addr) given
-    (allocation_lies doer.party.me doer c.with_flags.result c.args.tag c.in-Some.addr c.args.heap.now c.allocate_in.new.heap a
+    (allocation_lies doer.party.me doer c.with_flags-first.result c.args.tag c.in-Some.addr c.args.heap.now c.allocate_in.new.heap a
     c.in-Some.ensures.step refl c.requires.holds)
 
 pub returns-in-Some-clause-clock : goal.returns-in-Some-clause-clock
@@ -72,7 +72,7 @@ returns-in-Some-clause-clock g c = λ one. omega arith
 
 pub returns-in-Some-clause-keeps : goal.returns-in-Some-clause-keeps
 returns-in-Some-clause-keeps g c =
-    keeps_alloc c.args.self.now c.allocate_in.new.self c.args.heap.now c.allocate_in.new.heap c.with_flags.result c.args.tag c.allocate_in.result
+    keeps_alloc c.args.self.now c.allocate_in.new.self c.args.heap.now c.allocate_in.new.heap c.with_flags-first.result c.args.tag c.allocate_in.result
     (g.H.Hall.state c.args.hall.now) c.allocate_in.ensures.step c.allocate_in.ensures.counted c.requires.named c.requires.holds
 
 pub returns-in-Some-clause-names : goal.returns-in-Some-clause-names
@@ -83,13 +83,13 @@ returns-in-Some-clause-goes_on g c = g.met.H.Hall.goes_on_same _
 
 pub returns-in-Some-clause-agrees : goal.returns-in-Some-clause-agrees
 returns-in-Some-clause-agrees g c =
-    agrees_first c.args.self.now c.args.heap.now c.allocate_in.new.heap c.with_flags.result c.args.tag c.allocate_in.result (g.H.Hall.state c.args.hall.now) c.allocate_in.ensures.step
+    agrees_first c.args.self.now c.args.heap.now c.allocate_in.new.heap c.with_flags-first.result c.args.tag c.allocate_in.result (g.H.Hall.state c.args.hall.now) c.allocate_in.ensures.step
     c.requires.holds c.in-Some.addr c.in-Some.is
 
 -- IT in-Some NONE IN EXTERNAL MEMORY
 
-pub returns-in_default-clause-does : goal.returns-in_default-clause-does
-returns-in_default-clause-does g c = λ its heaps named.
+pub returns-in_default-serves-clause-does : goal.returns-in_default-serves-clause-does
+returns-in_default-serves-clause-does g c = λ its heaps named.
     let place = c.args.place.now in
     let doer = c.args.self.now in
     let a = g.H.Hall.state c.args.hall.now in
@@ -97,38 +97,38 @@ returns-in_default-clause-does g c = λ its heaps named.
     subst (λ (at : ℕ). Tries at [] a.count (did_in doer.party.me a a) (trying doer.context.pools request c.args.tag (its ∷ heaps))
     (trying doer.context.pools request c.args.tag heaps) None (moment_with c.args.heap.now doer.party.me doer a)
     (moment_with c.allocate_in.new.heap doer.party.me c.allocate_in.new.self a)) (index_is its place named)
-    (passed_external doer c.allocate_in.new.self a c.args.heap.now c.allocate_in.new.heap its request c.with_flags.result c.args.tag
+    (passed_external doer c.allocate_in.new.self a c.args.heap.now c.allocate_in.new.heap its request c.with_flags-first.result c.args.tag
     c.allocate_in.result
-    (asked_is its place request c.with_flags.result c.first_flags.result named c.first_flags.ensures c.with_flags.ensures) c.allocate_in.ensures.step
-    c.allocate_in.ensures.counted (index_is its place named ∙ c.requires.its) heaps (serves_is its place named ∙ c.in_default-2.is) c.in_default.is)
+    (asked_is its place request c.with_flags-first.result c.first_flags.result named c.first_flags.ensures c.with_flags-first.ensures) c.allocate_in.ensures.step
+    c.allocate_in.ensures.counted (index_is its place named ∙ c.requires.its) heaps (serves_is its place named ∙ c.in_default-serves.is) c.in_default.is)
 
-pub returns-in_default-clause-lies : goal.returns-in_default-clause-lies
-returns-in_default-clause-lies g c = λ given. lies_none c.args.self.now.party.me (g.H.Hall.state c.args.hall.now) given
+pub returns-in_default-serves-clause-lies : goal.returns-in_default-serves-clause-lies
+returns-in_default-serves-clause-lies g c = λ given. lies_none c.args.self.now.party.me (g.H.Hall.state c.args.hall.now) given
 
-pub returns-in_default-clause-clock : goal.returns-in_default-clause-clock
-returns-in_default-clause-clock g c = λ one. omega arith
+pub returns-in_default-serves-clause-clock : goal.returns-in_default-serves-clause-clock
+returns-in_default-serves-clause-clock g c = λ one. omega arith
 
-pub returns-in_default-clause-keeps : goal.returns-in_default-clause-keeps
-returns-in_default-clause-keeps g c =
-    keeps_alloc c.args.self.now c.allocate_in.new.self c.args.heap.now c.allocate_in.new.heap c.with_flags.result c.args.tag c.allocate_in.result
+pub returns-in_default-serves-clause-keeps : goal.returns-in_default-serves-clause-keeps
+returns-in_default-serves-clause-keeps g c =
+    keeps_alloc c.args.self.now c.allocate_in.new.self c.args.heap.now c.allocate_in.new.heap c.with_flags-first.result c.args.tag c.allocate_in.result
     (g.H.Hall.state c.args.hall.now) c.allocate_in.ensures.step c.allocate_in.ensures.counted c.requires.named c.requires.holds
 
-pub returns-in_default-clause-names : goal.returns-in_default-clause-names
-returns-in_default-clause-names g c = names_same c.args.self.now.party.me (g.H.Hall.state c.args.hall.now)
+pub returns-in_default-serves-clause-names : goal.returns-in_default-serves-clause-names
+returns-in_default-serves-clause-names g c = names_same c.args.self.now.party.me (g.H.Hall.state c.args.hall.now)
 
-pub returns-in_default-clause-goes_on : goal.returns-in_default-clause-goes_on
-returns-in_default-clause-goes_on g c = g.met.H.Hall.goes_on_same _
+pub returns-in_default-serves-clause-goes_on : goal.returns-in_default-serves-clause-goes_on
+returns-in_default-serves-clause-goes_on g c = g.met.H.Hall.goes_on_same _
 
-pub returns-in_default-clause-agrees : goal.returns-in_default-clause-agrees
-returns-in_default-clause-agrees g c =
-    agrees_passed (keeps_searched c.args.self.now c.args.heap.now c.allocate_in.new.heap c.with_flags.result c.args.tag c.allocate_in.result (g.H.Hall.state c.args.hall.now) c.allocate_in.ensures.step
+pub returns-in_default-serves-clause-agrees : goal.returns-in_default-serves-clause-agrees
+returns-in_default-serves-clause-agrees g c =
+    agrees_passed (keeps_searched c.args.self.now c.args.heap.now c.allocate_in.new.heap c.with_flags-first.result c.args.tag c.allocate_in.result (g.H.Hall.state c.args.hall.now) c.allocate_in.ensures.step
     c.requires.holds c.allocate_in.ensures.none c.in_default.is)
 
 -- PAGES ARE ASKED FOR
 
 pub grow-requires-clause-holds : goal.grow-requires-clause-holds
 grow-requires-clause-holds g c =
-    holds_on (keeps_alloc c.args.self.now c.allocate_in.new.self c.args.heap.now c.allocate_in.new.heap c.with_flags.result c.args.tag
+    holds_on (keeps_alloc c.args.self.now c.allocate_in.new.self c.args.heap.now c.allocate_in.new.heap c.with_flags-first.result c.args.tag
     c.allocate_in.result (g.H.Hall.state c.args.hall.now) c.allocate_in.ensures.step c.allocate_in.ensures.counted c.requires.named
     c.requires.holds) c.requires.holds
 
@@ -136,7 +136,7 @@ pub grow-requires-clause-its : goal.grow-requires-clause-its
 grow-requires-clause-its g c = c.requires.its ∙ sym (call_index _ _ _ _ _ c.allocate_in.ensures.step)
 
 pub grow-requires-clause-of_socket : goal.grow-requires-clause-of_socket
-grow-requires-clause-of_socket g c = call_serves _ _ _ _ _ c.allocate_in.ensures.step ∙ (c.requires.of_socket ∙ c.in-Some-2.is)
+grow-requires-clause-of_socket g c = call_serves _ _ _ _ _ c.allocate_in.ensures.step ∙ (c.requires.of_socket ∙ c.in-Some-serves.is)
 
 pub grow-requires-clause-room : goal.grow-requires-clause-room
 grow-requires-clause-room g c =
@@ -161,13 +161,13 @@ returns-in_err-grow-clause-halts g c =
     let a = g.H.Hall.state c.args.hall.now in
     let b = g.H.Hall.state c.grow.new.hall in
     let request = c.args.request.now in
-    let socket = c.in-Some-2.socket in
+    let socket = c.in-Some-serves.socket in
     let halts : (its : NamedHeap) (heaps : List NamedHeap) → place_named its ≡ place
       → HaltsHeld doer.party.me doer grown heap more a b (trying doer.context.pools request c.args.tag (its ∷ heaps)) =
     λ its heaps named.
-    halted doer mid a heap next its request c.with_flags.result c.args.tag c.allocate_in.result
-    (asked_is its place request c.with_flags.result c.first_flags.result named c.first_flags.ensures c.with_flags.ensures) c.allocate_in.ensures.step
-    c.allocate_in.ensures.counted (index_is its place named ∙ c.requires.its) heaps socket (serves_is its place named ∙ c.in-Some-2.is) grown b more
+    halted doer mid a heap next its request c.with_flags-first.result c.args.tag c.allocate_in.result
+    (asked_is its place request c.with_flags-first.result c.first_flags.result named c.first_flags.ensures c.with_flags-first.ensures) c.allocate_in.ensures.step
+    c.allocate_in.ensures.counted (index_is its place named ∙ c.requires.its) heaps socket (serves_is its place named ∙ c.in-Some-serves.is) grown b more
     c.in_default.is
     (λ tag otherwise.
     subst (λ (at : ℕ). HaltsHeld mid.party.me mid grown next more a b
@@ -180,12 +180,12 @@ returns-in_err-grow-clause-clock g c = λ one. omega (arith, c.grow.ensures.cloc
 
 pub returns-in_err-grow-clause-keeps : goal.returns-in_err-grow-clause-keeps
 returns-in_err-grow-clause-keeps g c = keeps_grown c.args.self.now c.allocate_in.new.self c.grow.new.self c.args.heap.now c.allocate_in.new.heap c.grow.new.heap
-    c.with_flags.result c.args.request.now c.args.tag c.allocate_in.result (g.H.Hall.state c.args.hall.now) (g.H.Hall.state c.grow.new.hall)
+    c.with_flags-first.result c.args.request.now c.args.tag c.allocate_in.result (g.H.Hall.state c.args.hall.now) (g.H.Hall.state c.grow.new.hall)
     c.allocate_in.ensures.step c.allocate_in.ensures.counted c.requires.named c.requires.holds c.grow.ensures.keeps
 
 pub returns-in_err-grow-clause-names : goal.returns-in_err-grow-clause-names
 returns-in_err-grow-clause-names g c = names_kept (keeps_grown c.args.self.now c.allocate_in.new.self c.grow.new.self c.args.heap.now c.allocate_in.new.heap c.grow.new.heap
-    c.with_flags.result c.args.request.now c.args.tag c.allocate_in.result (g.H.Hall.state c.args.hall.now) (g.H.Hall.state c.grow.new.hall)
+    c.with_flags-first.result c.args.request.now c.args.tag c.allocate_in.result (g.H.Hall.state c.args.hall.now) (g.H.Hall.state c.grow.new.hall)
     c.allocate_in.ensures.step c.allocate_in.ensures.counted c.requires.named c.requires.holds c.grow.ensures.keeps)
 
 pub returns-in_err-grow-clause-goes_on : goal.returns-in_err-grow-clause-goes_on
@@ -193,14 +193,14 @@ returns-in_err-grow-clause-goes_on g c = c.grow.ensures.goes_on
 
 pub returns-in_err-grow-clause-agrees : goal.returns-in_err-grow-clause-agrees
 returns-in_err-grow-clause-agrees g c =
-    agrees_passed (keeps_asked c.args.self.now c.args.heap.now c.allocate_in.new.heap c.with_flags.result c.args.tag c.allocate_in.result (g.H.Hall.state c.args.hall.now) c.allocate_in.ensures.step
+    agrees_passed (keeps_asked c.args.self.now c.args.heap.now c.allocate_in.new.heap c.with_flags-first.result c.args.tag c.allocate_in.result (g.H.Hall.state c.args.hall.now) c.allocate_in.ensures.step
     c.requires.holds c.allocate_in.ensures.none c.in_default.is c.allocate_in.new.self c.grow.new.self c.grow.new.heap (g.H.Hall.state c.grow.new.hall)
     (ap (λ (doer : ParticipantView). doer.party.me) c.allocate_in.ensures.counted) c.grow.ensures.keeps c.grow.ensures.says)
 
--- NONE WERE c.if-branch.false
+-- NONE WERE c.if-not-branch.false
 
-pub returns-if-clause-does : goal.returns-if-clause-does
-returns-if-clause-does g c = λ its heaps named.
+pub returns-then-not-branch-clause-does : goal.returns-then-not-branch-clause-does
+returns-then-not-branch-clause-does g c = λ its heaps named.
     let place = c.args.place.now in
     let doer = c.args.self.now in
     let mid = c.allocate_in.new.self in
@@ -211,51 +211,51 @@ returns-if-clause-does g c = λ its heaps named.
     let a = g.H.Hall.state c.args.hall.now in
     let b = g.H.Hall.state c.grow.new.hall in
     let request = c.args.request.now in
-    let socket = c.in-Some-2.socket in
+    let socket = c.in-Some-serves.socket in
     let keeps = keeps_grown c.args.self.now c.allocate_in.new.self c.grow.new.self c.args.heap.now c.allocate_in.new.heap c.grow.new.heap
-    c.with_flags.result c.args.request.now c.args.tag c.allocate_in.result (g.H.Hall.state c.args.hall.now) (g.H.Hall.state c.grow.new.hall)
+    c.with_flags-first.result c.args.request.now c.args.tag c.allocate_in.result (g.H.Hall.state c.args.hall.now) (g.H.Hall.state c.grow.new.hall)
     c.allocate_in.ensures.step c.allocate_in.ensures.counted c.requires.named c.requires.holds c.grow.ensures.keeps in
     subst (λ (at : ℕ). Tries at [] a.count (did_in doer.party.me a b) (trying doer.context.pools request c.args.tag (its ∷ heaps))
     (trying doer.context.pools request c.args.tag heaps) None (moment_with heap doer.party.me doer a)
     (moment_with more doer.party.me grown b)) (index_is its place named)
-    (passed doer mid a heap next its request c.with_flags.result c.args.tag c.allocate_in.result
-    (asked_is its place request c.with_flags.result c.first_flags.result named c.first_flags.ensures c.with_flags.ensures) c.allocate_in.ensures.step
-    c.allocate_in.ensures.counted (index_is its place named ∙ c.requires.its) heaps socket (serves_is its place named ∙ c.in-Some-2.is) grown b more
-    c.in_ok-grow.VALUE c.in_default.is
+    (passed doer mid a heap next its request c.with_flags-first.result c.args.tag c.allocate_in.result
+    (asked_is its place request c.with_flags-first.result c.first_flags.result named c.first_flags.ensures c.with_flags-first.ensures) c.allocate_in.ensures.step
+    c.allocate_in.ensures.counted (index_is its place named ∙ c.requires.its) heaps socket (serves_is its place named ∙ c.in-Some-serves.is) grown b more
+    c.in_ok-grow.field-0 c.in_default.is
     (λ tag otherwise.
     subst (λ (at : ℕ). DoesHeld mid.party.me mid grown next more a b
     (asking at socket request tag otherwise (page_sizes_for mid.context.pools socket request.flags))
-    (after_asking at request tag otherwise c.in_ok-grow.VALUE)) (sym (index_is its place named)) (c.in_ok-grow.ensures.does tag otherwise)) (c.if-branch.true))
+    (after_asking at request tag otherwise c.in_ok-grow.field-0)) (sym (index_is its place named)) (c.in_ok-grow.ensures.does tag otherwise)) (c.if-not-branch.true))
 
-pub returns-if-clause-lies : goal.returns-if-clause-lies
-returns-if-clause-lies g c = λ given. lies_none c.args.self.now.party.me (g.H.Hall.state c.grow.new.hall) given
+pub returns-then-not-branch-clause-lies : goal.returns-then-not-branch-clause-lies
+returns-then-not-branch-clause-lies g c = λ given. lies_none c.args.self.now.party.me (g.H.Hall.state c.grow.new.hall) given
 
-pub returns-if-clause-clock : goal.returns-if-clause-clock
-returns-if-clause-clock g c = λ one. omega (arith, c.grow.ensures.clock one, ap (λ (doer : ParticipantView). doer.party.deadline) c.allocate_in.ensures.counted)
+pub returns-then-not-branch-clause-clock : goal.returns-then-not-branch-clause-clock
+returns-then-not-branch-clause-clock g c = λ one. omega (arith, c.grow.ensures.clock one, ap (λ (doer : ParticipantView). doer.party.deadline) c.allocate_in.ensures.counted)
 
-pub returns-if-clause-keeps : goal.returns-if-clause-keeps
-returns-if-clause-keeps g c = keeps_grown c.args.self.now c.allocate_in.new.self c.grow.new.self c.args.heap.now c.allocate_in.new.heap c.grow.new.heap
-    c.with_flags.result c.args.request.now c.args.tag c.allocate_in.result (g.H.Hall.state c.args.hall.now) (g.H.Hall.state c.grow.new.hall)
+pub returns-then-not-branch-clause-keeps : goal.returns-then-not-branch-clause-keeps
+returns-then-not-branch-clause-keeps g c = keeps_grown c.args.self.now c.allocate_in.new.self c.grow.new.self c.args.heap.now c.allocate_in.new.heap c.grow.new.heap
+    c.with_flags-first.result c.args.request.now c.args.tag c.allocate_in.result (g.H.Hall.state c.args.hall.now) (g.H.Hall.state c.grow.new.hall)
     c.allocate_in.ensures.step c.allocate_in.ensures.counted c.requires.named c.requires.holds c.grow.ensures.keeps
 
-pub returns-if-clause-names : goal.returns-if-clause-names
-returns-if-clause-names g c = names_kept (keeps_grown c.args.self.now c.allocate_in.new.self c.grow.new.self c.args.heap.now c.allocate_in.new.heap c.grow.new.heap
-    c.with_flags.result c.args.request.now c.args.tag c.allocate_in.result (g.H.Hall.state c.args.hall.now) (g.H.Hall.state c.grow.new.hall)
+pub returns-then-not-branch-clause-names : goal.returns-then-not-branch-clause-names
+returns-then-not-branch-clause-names g c = names_kept (keeps_grown c.args.self.now c.allocate_in.new.self c.grow.new.self c.args.heap.now c.allocate_in.new.heap c.grow.new.heap
+    c.with_flags-first.result c.args.request.now c.args.tag c.allocate_in.result (g.H.Hall.state c.args.hall.now) (g.H.Hall.state c.grow.new.hall)
     c.allocate_in.ensures.step c.allocate_in.ensures.counted c.requires.named c.requires.holds c.grow.ensures.keeps)
 
-pub returns-if-clause-goes_on : goal.returns-if-clause-goes_on
-returns-if-clause-goes_on g c = c.grow.ensures.goes_on
+pub returns-then-not-branch-clause-goes_on : goal.returns-then-not-branch-clause-goes_on
+returns-then-not-branch-clause-goes_on g c = c.grow.ensures.goes_on
 
-pub returns-if-clause-agrees : goal.returns-if-clause-agrees
-returns-if-clause-agrees g c =
-    agrees_passed (keeps_asked c.args.self.now c.args.heap.now c.allocate_in.new.heap c.with_flags.result c.args.tag c.allocate_in.result (g.H.Hall.state c.args.hall.now) c.allocate_in.ensures.step
+pub returns-then-not-branch-clause-agrees : goal.returns-then-not-branch-clause-agrees
+returns-then-not-branch-clause-agrees g c =
+    agrees_passed (keeps_asked c.args.self.now c.args.heap.now c.allocate_in.new.heap c.with_flags-first.result c.args.tag c.allocate_in.result (g.H.Hall.state c.args.hall.now) c.allocate_in.ensures.step
     c.requires.holds c.allocate_in.ensures.none c.in_default.is c.allocate_in.new.self c.grow.new.self c.grow.new.heap (g.H.Hall.state c.grow.new.hall)
     (ap (λ (doer : ParticipantView). doer.party.me) c.allocate_in.ensures.counted) c.grow.ensures.keeps c.grow.ensures.says)
 
 -- SOME WERE, AND IT IS SEARCHED AGAIN
 
-pub allocate_in-2-requires : goal.allocate_in-2-requires
-allocate_in-2-requires g c =
+pub allocate_in-requires-2 : goal.allocate_in-requires-2
+allocate_in-requires-2 g c =
     let room =
     room_called 2 c.args.self.now c.allocate_in.new.self c.args.heap.now c.allocate_in.new.heap c.allocate_in.ensures.step.spare
     c.allocate_in.ensures.counted c.requires.room in
@@ -265,8 +265,8 @@ allocate_in-2-requires g c =
     let counted = room.counted in
     record { spare = omega (arith, spare, left); counted = omega (arith, counted, calls) }
 
-pub returns-in-Some-clause-does : goal.returns-in-Some-clause-does
-returns-in-Some-clause-does g c = λ its heaps named.
+pub returns-in-Some-allocate_in-clause-does : goal.returns-in-Some-allocate_in-clause-does
+returns-in-Some-allocate_in-clause-does g c = λ its heaps named.
     let place = c.args.place.now in
     let doer = c.args.self.now in
     let mid = c.allocate_in.new.self in
@@ -277,54 +277,54 @@ returns-in-Some-clause-does g c = λ its heaps named.
     let a = g.H.Hall.state c.args.hall.now in
     let b = g.H.Hall.state c.grow.new.hall in
     let request = c.args.request.now in
-    let socket = c.in-Some-2.socket in
+    let socket = c.in-Some-serves.socket in
     let keeps = keeps_grown c.args.self.now c.allocate_in.new.self c.grow.new.self c.args.heap.now c.allocate_in.new.heap c.grow.new.heap
-    c.with_flags.result c.args.request.now c.args.tag c.allocate_in.result (g.H.Hall.state c.args.hall.now) (g.H.Hall.state c.grow.new.hall)
+    c.with_flags-first.result c.args.request.now c.args.tag c.allocate_in.result (g.H.Hall.state c.args.hall.now) (g.H.Hall.state c.grow.new.hall)
     c.allocate_in.ensures.step c.allocate_in.ensures.counted c.requires.named c.requires.holds c.grow.ensures.keeps in
     let last = c.allocate_in-2.new.self in
     let again = c.allocate_in-2.new.heap in
     subst (λ (at : ℕ). Tries at [] a.count (did_in doer.party.me a b) (trying doer.context.pools request c.args.tag (its ∷ heaps))
-    (trying doer.context.pools request c.args.tag heaps) (Some (gives.Address c.in-Some-3.addr)) (moment_with heap doer.party.me doer a)
+    (trying doer.context.pools request c.args.tag heaps) (Some (gives.Address c.in-Some-allocate_in.addr)) (moment_with heap doer.party.me doer a)
     (moment_with again doer.party.me last b)) (index_is its place named)
-    (found_again doer mid a heap next its request c.with_flags.result c.args.tag c.allocate_in.result
-    (asked_is its place request c.with_flags.result c.first_flags.result named c.first_flags.ensures c.with_flags.ensures) c.allocate_in.ensures.step
-    c.allocate_in.ensures.counted (index_is its place named ∙ c.requires.its) heaps socket (serves_is its place named ∙ c.in-Some-2.is) grown b more
-    c.in_ok-grow.VALUE c.in_default.is
+    (found_again doer mid a heap next its request c.with_flags-first.result c.args.tag c.allocate_in.result
+    (asked_is its place request c.with_flags-first.result c.first_flags.result named c.first_flags.ensures c.with_flags-first.ensures) c.allocate_in.ensures.step
+    c.allocate_in.ensures.counted (index_is its place named ∙ c.requires.its) heaps socket (serves_is its place named ∙ c.in-Some-serves.is) grown b more
+    c.in_ok-grow.field-0 c.in_default.is
     (λ tag otherwise.
     subst (λ (at : ℕ). DoesHeld mid.party.me mid grown next more a b
     (asking at socket request tag otherwise (page_sizes_for mid.context.pools socket request.flags))
-    (after_asking at request tag otherwise c.in_ok-grow.VALUE)) (sym (index_is its place named)) (c.in_ok-grow.ensures.does tag otherwise)) last again c.allocate_in-2.result c.allocate_in-2.ensures.step c.allocate_in-2.ensures.counted
-    (index_is its place named ∙ (c.requires.its ∙ sym keeps.index)) (c.if-branch.false) c.in-Some-3.addr c.in-Some-3.is)
+    (after_asking at request tag otherwise c.in_ok-grow.field-0)) (sym (index_is its place named)) (c.in_ok-grow.ensures.does tag otherwise)) last again c.allocate_in-2.result c.allocate_in-2.ensures.step c.allocate_in-2.ensures.counted
+    (index_is its place named ∙ (c.requires.its ∙ sym keeps.index)) (c.if-not-branch.false) c.in-Some-allocate_in.addr c.in-Some-allocate_in.is)
 
-pub returns-in-Some-clause-lies : goal.returns-in-Some-clause-lies
-returns-in-Some-clause-lies g c = λ given.
-    lies_so c.args.self.now.party.me (g.H.Hall.state c.grow.new.hall) (gives.Address c.in-Some-3.addr) given
+pub returns-in-Some-allocate_in-clause-lies : goal.returns-in-Some-allocate_in-clause-lies
+returns-in-Some-allocate_in-clause-lies g c = λ given.
+    lies_so c.args.self.now.party.me (g.H.Hall.state c.grow.new.hall) (gives.Address c.in-Some-allocate_in.addr) given
     (lies_again c.args.self.now c.allocate_in.new.self c.grow.new.self c.args.heap.now c.allocate_in.new.heap c.grow.new.heap
-    c.with_flags.result c.args.request.now c.args.tag c.allocate_in.result (g.H.Hall.state c.args.hall.now) (g.H.Hall.state c.grow.new.hall)
-    c.allocate_in.ensures.step c.allocate_in.ensures.counted c.requires.named c.requires.holds c.grow.ensures.keeps c.allocate_in-2.new.heap c.in-Some-3.addr c.in-Some-3.ensures.step)
+    c.with_flags-first.result c.args.request.now c.args.tag c.allocate_in.result (g.H.Hall.state c.args.hall.now) (g.H.Hall.state c.grow.new.hall)
+    c.allocate_in.ensures.step c.allocate_in.ensures.counted c.requires.named c.requires.holds c.grow.ensures.keeps c.allocate_in-2.new.heap c.in-Some-allocate_in.addr c.in-Some-allocate_in.ensures.step)
 
-pub returns-in-Some-clause-clock : goal.returns-in-Some-clause-clock
-returns-in-Some-clause-clock g c = λ one. omega (arith, c.grow.ensures.clock one, ap (λ (doer : ParticipantView). doer.party.deadline) c.allocate_in.ensures.counted)
+pub returns-in-Some-allocate_in-clause-clock : goal.returns-in-Some-allocate_in-clause-clock
+returns-in-Some-allocate_in-clause-clock g c = λ one. omega (arith, c.grow.ensures.clock one, ap (λ (doer : ParticipantView). doer.party.deadline) c.allocate_in.ensures.counted)
 
-pub returns-in-Some-clause-keeps : goal.returns-in-Some-clause-keeps
-returns-in-Some-clause-keeps g c = keeps_again c.args.self.now c.allocate_in.new.self c.grow.new.self c.args.heap.now c.allocate_in.new.heap c.grow.new.heap
-    c.with_flags.result c.args.request.now c.args.tag c.allocate_in.result (g.H.Hall.state c.args.hall.now) (g.H.Hall.state c.grow.new.hall)
+pub returns-in-Some-allocate_in-clause-keeps : goal.returns-in-Some-allocate_in-clause-keeps
+returns-in-Some-allocate_in-clause-keeps g c = keeps_again c.args.self.now c.allocate_in.new.self c.grow.new.self c.args.heap.now c.allocate_in.new.heap c.grow.new.heap
+    c.with_flags-first.result c.args.request.now c.args.tag c.allocate_in.result (g.H.Hall.state c.args.hall.now) (g.H.Hall.state c.grow.new.hall)
     c.allocate_in.ensures.step c.allocate_in.ensures.counted c.requires.named c.requires.holds c.grow.ensures.keeps c.allocate_in-2.new.self c.allocate_in-2.new.heap c.allocate_in-2.result c.allocate_in-2.ensures.step c.allocate_in-2.ensures.counted
 
-pub returns-in-Some-clause-names : goal.returns-in-Some-clause-names
-returns-in-Some-clause-names g c = names_kept (keeps_again c.args.self.now c.allocate_in.new.self c.grow.new.self c.args.heap.now c.allocate_in.new.heap c.grow.new.heap
-    c.with_flags.result c.args.request.now c.args.tag c.allocate_in.result (g.H.Hall.state c.args.hall.now) (g.H.Hall.state c.grow.new.hall)
+pub returns-in-Some-allocate_in-clause-names : goal.returns-in-Some-allocate_in-clause-names
+returns-in-Some-allocate_in-clause-names g c = names_kept (keeps_again c.args.self.now c.allocate_in.new.self c.grow.new.self c.args.heap.now c.allocate_in.new.heap c.grow.new.heap
+    c.with_flags-first.result c.args.request.now c.args.tag c.allocate_in.result (g.H.Hall.state c.args.hall.now) (g.H.Hall.state c.grow.new.hall)
     c.allocate_in.ensures.step c.allocate_in.ensures.counted c.requires.named c.requires.holds c.grow.ensures.keeps c.allocate_in-2.new.self c.allocate_in-2.new.heap c.allocate_in-2.result c.allocate_in-2.ensures.step c.allocate_in-2.ensures.counted)
 
-pub returns-in-Some-clause-goes_on : goal.returns-in-Some-clause-goes_on
-returns-in-Some-clause-goes_on g c = c.grow.ensures.goes_on
+pub returns-in-Some-allocate_in-clause-goes_on : goal.returns-in-Some-allocate_in-clause-goes_on
+returns-in-Some-allocate_in-clause-goes_on g c = c.grow.ensures.goes_on
 
-pub returns-in-Some-clause-agrees : goal.returns-in-Some-clause-agrees
-returns-in-Some-clause-agrees g c =
-    agrees_again c.args.self.now c.args.heap.now c.allocate_in.new.heap c.with_flags.result c.args.tag c.allocate_in.result (g.H.Hall.state c.args.hall.now) c.allocate_in.ensures.step
+pub returns-in-Some-allocate_in-clause-agrees : goal.returns-in-Some-allocate_in-clause-agrees
+returns-in-Some-allocate_in-clause-agrees g c =
+    agrees_again c.args.self.now c.args.heap.now c.allocate_in.new.heap c.with_flags-first.result c.args.tag c.allocate_in.result (g.H.Hall.state c.args.hall.now) c.allocate_in.ensures.step
     c.requires.holds c.allocate_in.ensures.none c.in_default.is c.allocate_in.new.self c.grow.new.self c.grow.new.heap (g.H.Hall.state c.grow.new.hall)
     (ap (λ (doer : ParticipantView). doer.party.me) c.allocate_in.ensures.counted) c.grow.ensures.keeps c.grow.ensures.says
-    c.args.request.now c.allocate_in-2.result c.allocate_in-2.new.heap c.allocate_in-2.ensures.step c.in-Some-3.addr c.in-Some-3.is
+    c.args.request.now c.allocate_in-2.result c.allocate_in-2.new.heap c.allocate_in-2.ensures.step c.in-Some-allocate_in.addr c.in-Some-allocate_in.is
 
 pub returns-in-None-clause-does : goal.returns-in-None-clause-does
 returns-in-None-clause-does g c = λ its heaps named.
@@ -338,24 +338,24 @@ returns-in-None-clause-does g c = λ its heaps named.
     let a = g.H.Hall.state c.args.hall.now in
     let b = g.H.Hall.state c.grow.new.hall in
     let request = c.args.request.now in
-    let socket = c.in-Some-2.socket in
+    let socket = c.in-Some-serves.socket in
     let keeps = keeps_grown c.args.self.now c.allocate_in.new.self c.grow.new.self c.args.heap.now c.allocate_in.new.heap c.grow.new.heap
-    c.with_flags.result c.args.request.now c.args.tag c.allocate_in.result (g.H.Hall.state c.args.hall.now) (g.H.Hall.state c.grow.new.hall)
+    c.with_flags-first.result c.args.request.now c.args.tag c.allocate_in.result (g.H.Hall.state c.args.hall.now) (g.H.Hall.state c.grow.new.hall)
     c.allocate_in.ensures.step c.allocate_in.ensures.counted c.requires.named c.requires.holds c.grow.ensures.keeps in
     let last = c.allocate_in-2.new.self in
     let again = c.allocate_in-2.new.heap in
     subst (λ (at : ℕ). Tries at [] a.count (did_in doer.party.me a b) (trying doer.context.pools request c.args.tag (its ∷ heaps))
     (trying doer.context.pools request c.args.tag heaps) (Some gives.None) (moment_with heap doer.party.me doer a)
     (moment_with again doer.party.me last b)) (index_is its place named)
-    (found_none doer mid a heap next its request c.with_flags.result c.args.tag c.allocate_in.result
-    (asked_is its place request c.with_flags.result c.first_flags.result named c.first_flags.ensures c.with_flags.ensures) c.allocate_in.ensures.step
-    c.allocate_in.ensures.counted (index_is its place named ∙ c.requires.its) heaps socket (serves_is its place named ∙ c.in-Some-2.is) grown b more
-    c.in_ok-grow.VALUE c.in_default.is
+    (found_none doer mid a heap next its request c.with_flags-first.result c.args.tag c.allocate_in.result
+    (asked_is its place request c.with_flags-first.result c.first_flags.result named c.first_flags.ensures c.with_flags-first.ensures) c.allocate_in.ensures.step
+    c.allocate_in.ensures.counted (index_is its place named ∙ c.requires.its) heaps socket (serves_is its place named ∙ c.in-Some-serves.is) grown b more
+    c.in_ok-grow.field-0 c.in_default.is
     (λ tag otherwise.
     subst (λ (at : ℕ). DoesHeld mid.party.me mid grown next more a b
     (asking at socket request tag otherwise (page_sizes_for mid.context.pools socket request.flags))
-    (after_asking at request tag otherwise c.in_ok-grow.VALUE)) (sym (index_is its place named)) (c.in_ok-grow.ensures.does tag otherwise)) last again c.allocate_in-2.result c.allocate_in-2.ensures.step c.allocate_in-2.ensures.counted
-    (index_is its place named ∙ (c.requires.its ∙ sym keeps.index)) (c.if-branch.false) c.in-None.is)
+    (after_asking at request tag otherwise c.in_ok-grow.field-0)) (sym (index_is its place named)) (c.in_ok-grow.ensures.does tag otherwise)) last again c.allocate_in-2.result c.allocate_in-2.ensures.step c.allocate_in-2.ensures.counted
+    (index_is its place named ∙ (c.requires.its ∙ sym keeps.index)) (c.if-not-branch.false) c.in-None.is)
 
 pub returns-in-None-clause-lies : goal.returns-in-None-clause-lies
 returns-in-None-clause-lies g c = λ given. lies_so c.args.self.now.party.me (g.H.Hall.state c.grow.new.hall) gives.None given tt
@@ -365,12 +365,12 @@ returns-in-None-clause-clock g c = λ one. omega (arith, c.grow.ensures.clock on
 
 pub returns-in-None-clause-keeps : goal.returns-in-None-clause-keeps
 returns-in-None-clause-keeps g c = keeps_again c.args.self.now c.allocate_in.new.self c.grow.new.self c.args.heap.now c.allocate_in.new.heap c.grow.new.heap
-    c.with_flags.result c.args.request.now c.args.tag c.allocate_in.result (g.H.Hall.state c.args.hall.now) (g.H.Hall.state c.grow.new.hall)
+    c.with_flags-first.result c.args.request.now c.args.tag c.allocate_in.result (g.H.Hall.state c.args.hall.now) (g.H.Hall.state c.grow.new.hall)
     c.allocate_in.ensures.step c.allocate_in.ensures.counted c.requires.named c.requires.holds c.grow.ensures.keeps c.allocate_in-2.new.self c.allocate_in-2.new.heap c.allocate_in-2.result c.allocate_in-2.ensures.step c.allocate_in-2.ensures.counted
 
 pub returns-in-None-clause-names : goal.returns-in-None-clause-names
 returns-in-None-clause-names g c = names_kept (keeps_again c.args.self.now c.allocate_in.new.self c.grow.new.self c.args.heap.now c.allocate_in.new.heap c.grow.new.heap
-    c.with_flags.result c.args.request.now c.args.tag c.allocate_in.result (g.H.Hall.state c.args.hall.now) (g.H.Hall.state c.grow.new.hall)
+    c.with_flags-first.result c.args.request.now c.args.tag c.allocate_in.result (g.H.Hall.state c.args.hall.now) (g.H.Hall.state c.grow.new.hall)
     c.allocate_in.ensures.step c.allocate_in.ensures.counted c.requires.named c.requires.holds c.grow.ensures.keeps c.allocate_in-2.new.self c.allocate_in-2.new.heap c.allocate_in-2.result c.allocate_in-2.ensures.step c.allocate_in-2.ensures.counted)
 
 pub returns-in-None-clause-goes_on : goal.returns-in-None-clause-goes_on
@@ -378,7 +378,7 @@ returns-in-None-clause-goes_on g c = c.grow.ensures.goes_on
 
 pub returns-in-None-clause-agrees : goal.returns-in-None-clause-agrees
 returns-in-None-clause-agrees g c =
-    agrees_missing c.args.self.now c.args.heap.now c.allocate_in.new.heap c.with_flags.result c.args.tag c.allocate_in.result (g.H.Hall.state c.args.hall.now) c.allocate_in.ensures.step
+    agrees_missing c.args.self.now c.args.heap.now c.allocate_in.new.heap c.with_flags-first.result c.args.tag c.allocate_in.result (g.H.Hall.state c.args.hall.now) c.allocate_in.ensures.step
     c.requires.holds c.allocate_in.ensures.none c.in_default.is c.allocate_in.new.self c.grow.new.self c.grow.new.heap (g.H.Hall.state c.grow.new.hall)
     (ap (λ (doer : ParticipantView). doer.party.me) c.allocate_in.ensures.counted) c.grow.ensures.keeps c.grow.ensures.says
     c.args.request.now c.allocate_in-2.result c.allocate_in-2.new.heap c.allocate_in-2.ensures.step c.allocate_in-2.ensures.none c.in-None.is
