@@ -14,10 +14,12 @@ use Rattle.hp_zone.specs.declared.fault.ZoneFault.TheVariants as fault
 use Rattle.hp_zone.specs.declared.names.Names.{Names as NamesView}
 use Rattle.hp_proc.specs.Contexts.{AreFactsOf, Context}
 use Rattle.hp_proc.specs.Doing.{Doing}
+use Rattle.hp_proc.specs.Halting.{ActsOn}
+use Rattle.hp_proc.specs.Handing.{shared_of}
 use Rattle.hp_proc.specs.LineInHall.{HaltsHere, HaltsLineHere, HoldsNames, IsKnownMapped, did_in, moment}
 use Rattle.hp_proc.specs.LineTrees.{doing_of, reserving_line}
 use Rattle.hp_proc.specs.Lines.{Facts, if_attached, reading_names}
-use Rattle.hp_proc.specs.NamesInHand.{DoesNamedOnce, HasCalledNamed, IsReadyNamed}
+use Rattle.hp_proc.specs.NamesInHand.{DoesNamedOnce, HaltsNamedOnce, HasCalledNamed, IsReadyNamed}
 use Rattle.hp_proc.specs.ParticipantView.{ParticipantView}
 use Rattle.hp_proc.specs.ZoneLines.{zone_answer}
 use Rattle.hp_proc.specs.ZonesInHand.{reserving_by}
@@ -53,6 +55,34 @@ nothing_named me doer names at doing told tree =
         does = does_same at.count (did_in me at at) (Doing.Ended told) (moment me doer at) (did_same me at);
       };
       names = record { changed = refl; unread = refl; untold = tt };
+    }
+
+-- and it stopped
+pub halts_named : (me : ℕ) (doer : ParticipantView) (names now : NamesView) (at : HallState) (doing : Doing) → shared_of now ≡ shared_of names
+    → HaltsNamedOnce me doer doer names now at at doing
+unfolding does_same does_still
+halts_named me doer names now at doing same =
+    let does = does_same at.count (did_in me at at) doing (moment me doer at) (did_same me at) in
+    record {
+      heaps = [];
+      once = once_none;
+      halts = record {
+        halts = record {
+          rest = doing;
+          trace = does.trace;
+          steps = does.steps;
+          held = [];
+          others = [];
+          front = refl;
+          leads = does.leads;
+          made = does.made;
+          acts = ActsOn.acts None None [] doer doer does.trace does.steps does.acts;
+          entries = does.entries;
+          counted = does.counted;
+          same = does.same;
+        };
+        names = record { changed = same; unread = refl; untold = tt };
+      };
     }
 
 pub named_same : (doer : ParticipantView) (names : NamesView) {at : HallState} → IsReadyNamed doer.party.me doer names at

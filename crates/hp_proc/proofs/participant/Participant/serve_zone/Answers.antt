@@ -1,5 +1,5 @@
 -- A reservation is served with the names in hand, and what it brings is put among the memzones.
-use Rattle.std.proofs.Common.{rules, ◌≡◌, ◌∙◌, ℕ, List, map, Some, None, Ok, Err, true, inl, inr, refl, ap, sym, subst}
+use Rattle.std.proofs.Common.{rules, ◌≡◌, ◌∙◌, ℕ, List, map, Some, None, Result, inr, refl, ap, sym, subst}
 use Rattle.std.specs.List.{Contains}
 use Rattle.std.specs.Option.{option_map}
 use Rattle.hp_base.specs.declared.limits.TheConstants.{MAX_HEAPS}
@@ -12,6 +12,7 @@ use Rattle.hp_zone.specs.Zones.{ZonesView}
 use Rattle.hp_proc.specs.Allocating.{serving}
 use Rattle.hp_proc.specs.Courses.{maker_for}
 use Rattle.hp_proc.specs.Doing.{Doing}
+use Rattle.hp_proc.specs.Handing.{shared_of}
 use Rattle.hp_proc.specs.Heaps.{NamedHeap, heaps_for}
 use Rattle.hp_proc.specs.LineInHall.{HaltsHere, did_in, moment}
 use Rattle.hp_proc.specs.NamesInHand.{DoesNamedOnce, HasCalledNamed, HaltsNamedOnce, IsReadyNamed}
@@ -26,6 +27,8 @@ use Rattle.hp_proc.proofs.NamesRead.{as_leaves}
 use Rattle.hp_proc.proofs.Reservations.{reservations_agree}
 use Rattle.hp_proc.proofs.Rising.{few_zone_places, rises_within}
 use Rattle.hp_proc.proofs.TreeDeeds.{only_serving}
+use Rattle.hp_proc.proofs.ZoneAgrees.{no_address}
+use Rattle.hp_proc.proofs.ZoneDone.{halts_named, named_same}
 use Rattle.hp_proc.proofs.ZoneHeld.{may_put, named_none, named_put, names_out, roomy, roomy_ready}
 use Rattle.hp_proc.proofs.ZonePlaces.{zone_places_of}
 use Rattle.hp_proc.proofs.ZoneServed.{zone_does, zone_halts}
@@ -175,7 +178,7 @@ returns-in_err-answer-clause-halts g c =
     let judged = (reservations_agree names.zones.zones name.text asks.len options).accepted asks.acceptable in
     let same_log = ap (λ (zones : ZonesView). zones.log) c.in_ok-reserve.ensures.ok in
     let are : map place_named heaps ≡ c.as_slice.result.now = sym (c.as_slice.ensures.value ∙ c.in_ok-places.ensures) in
-    on_err_any c.from_residual.result _ (λ facts known.
+    on_err_any c.from_residual-in_err-answer.result _ (λ facts known.
     subst (λ (doing : Doing). HaltsNamedOnce me doer after names (record { zones = c.reserve.new.self; heaps = names.heaps }) hall to doing)
     (served_tree line name asks.len options asks.its_act doer.party.socket doer.context names these facts known request asks.accepted asks.is judged)
     (zone_halts me 0 request.size doer after names c.reserve.new.self hall to serves (only_serving request tag doer.context.pools heaps) name.text
@@ -184,3 +187,63 @@ returns-in_err-answer-clause-halts g c =
     c.as_slice.result.now (c.as_slice.ensures.value ∙ c.in_ok-places.ensures))
     (subst (λ (tag : Tag). HaltsHere (map (λ (place : SearchedHeap). place.index) c.as_slice.result.now) me doer after hall to
     (serving doer.context.pools request tag heaps)) c.zone_tag-tag.ensures (c.in_err-answer.ensures.halts heaps are))))
+
+pub returns-in_err-answer-clause-ready : goal.returns-in_err-answer-clause-ready
+returns-in_err-answer-clause-ready g c =
+    let doer = c.args.self.now in
+    let me = doer.party.me in
+    let hall = g.H.Hall.state c.args.hall.now in
+    let names = c.args.names.now in
+    let options = c.args.options.now in
+    let heaps = heaps_for doer.party.socket (heaps_in names.heaps.plain) (option_map (λ (name : Part). name.text) options.heap) options.socket in
+    let after = c.serve_request.new.self in
+    let to = g.H.Hall.state c.serve_request.new.hall in
+    let are : map place_named heaps ≡ c.as_slice.result.now = sym (c.as_slice.ensures.value ∙ c.in_ok-places.ensures) in
+    let halts = c.in_err-answer.ensures.halts heaps are in
+    subst (λ (zones : ZonesView). HasCalledNamed me doer after (record { zones = zones; heaps = names.heaps }) to) (sym c.in_ok-reserve.ensures.ok)
+    (named_none names c.requires.ready c.serve_request.ensures.ready (λ heap. (_, halts.entries heap)) c.zone_tag-tag.result
+    (last_answer_of c.serve_request.result) (last_heap_of c.serve_request.result) c.serve_request.ensures.agrees
+    (inr (no_address (last_answer_of c.serve_request.result) (ap last_answer_of c.in_err-answer.is))))
+
+pub returns-in_err-answer-clause-clock : goal.returns-in_err-answer-clause-clock
+returns-in_err-answer-clause-clock g c =
+    let doer = c.args.self.now in
+    let names = c.args.names.now in
+    let options = c.args.options.now in
+    rises_within g.H.Hall.pending (λ hall. IsBusy (g.H.Hall.state hall)) _ MAX_HEAPS (longest_growth doer.party.deadline) _ _
+    (few_zone_places names.heaps.plain doer.party.socket (option_map (λ (name : Part). name.text) options.heap) options.socket c.as_slice.result.now
+    (c.as_slice.ensures.value ∙ c.in_ok-places.ensures)) c.serve_request.ensures.clock
+
+-- or before it had one
+pub returns-in_err-places-clause-halts : goal.returns-in_err-places-clause-halts
+returns-in_err-places-clause-halts g c =
+    let doer = c.args.self.now in
+    let names = c.args.names.now in
+    on_err_any _ _ (λ facts known.
+    halts_named doer.party.me doer names (record { zones = c.reserve.new.self; heaps = names.heaps }) (g.H.Hall.state c.args.hall.now) _
+    (ap (λ (zones : ZonesView). shared_of (record { zones = zones; heaps = names.heaps })) c.in_ok-reserve.ensures.ok))
+
+pub returns-in_err-places-clause-ready : goal.returns-in_err-places-clause-ready
+returns-in_err-places-clause-ready g c =
+    let doer = c.args.self.now in
+    let names = c.args.names.now in
+    subst (λ (zones : ZonesView). HasCalledNamed doer.party.me doer doer (record { zones = zones; heaps = names.heaps }) (g.H.Hall.state c.args.hall.now))
+    (sym c.in_ok-reserve.ensures.ok) (named_same doer (roomy names) (roomy_ready c.requires.ready))
+
+pub returns-in_err-reserve-clause-halts : goal.returns-in_err-reserve-clause-halts
+returns-in_err-reserve-clause-halts g c =
+    let doer = c.args.self.now in
+    let names = c.args.names.now in
+    on_err_any _ _ (λ facts known.
+    halts_named doer.party.me doer names (record { zones = c.reserve.new.self; heaps = names.heaps }) (g.H.Hall.state c.args.hall.now) _
+    (ap (λ (zones : ZonesView). shared_of (record { zones = zones; heaps = names.heaps })) c.in_err-reserve.ensures.err))
+
+pub returns-in_err-reserve-clause-ready : goal.returns-in_err-reserve-clause-ready
+returns-in_err-reserve-clause-ready g c =
+    let doer = c.args.self.now in
+    let names = c.args.names.now in
+    subst (λ (zones : ZonesView). HasCalledNamed doer.party.me doer doer (record { zones = zones; heaps = names.heaps }) (g.H.Hall.state c.args.hall.now))
+    (sym c.in_err-reserve.ensures.err) (named_same doer names c.requires.ready)
+
+pub returns-in_err-reserve-clause-goes_on : goal.returns-in_err-reserve-clause-goes_on
+returns-in_err-reserve-clause-goes_on g c = g.met.H.Hall.goes_on_same _
