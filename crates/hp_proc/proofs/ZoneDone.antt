@@ -41,21 +41,19 @@ err_by (Err e) goes has = goes has
 -- WITH THE NAMES IN HAND
 
 -- nothing was done
+ended_named : (me : ℕ) (doer : ParticipantView) (names : NamesView) (at : HallState) (doing : Doing)
+    → DoesNamedOnce me doer doer names names at at doing doing
+unfolding does_same does_still
+ended_named me doer names at doing = record {
+  does = record { held = []; once = once_none; does = does_same at.count (did_in me at at) doing (moment me doer at) (did_same me at) };
+  names = record { changed = refl; unread = refl; untold = tt };
+}
+
 pub nothing_named : (me : ℕ) (doer : ParticipantView) (names : NamesView) (at : HallState) (doing : Doing) (told : Answer) → Doing.Ended told ≡ doing
     → DoesNamedOnce me doer doer names names at at doing (Doing.Ended told)
 nothing_named me doer names at doing told tree =
-    subst (λ (doing : Doing). DoesNamedOnce me doer doer names names at at doing (Doing.Ended told)) tree first
-  where
-    first : DoesNamedOnce me doer doer names names at at (Doing.Ended told) (Doing.Ended told)
-    unfolding does_same does_still
-    first = record {
-      does = record {
-        held = [];
-        once = once_none;
-        does = does_same at.count (did_in me at at) (Doing.Ended told) (moment me doer at) (did_same me at);
-      };
-      names = record { changed = refl; unread = refl; untold = tt };
-    }
+    subst (λ (doing : Doing). DoesNamedOnce me doer doer names names at at doing (Doing.Ended told)) tree
+    (ended_named me doer names at (Doing.Ended told))
 
 -- and it stopped
 pub halts_named : (me : ℕ) (doer : ParticipantView) (names now : NamesView) (at : HallState) (doing : Doing) → shared_of now ≡ shared_of names
