@@ -84,6 +84,8 @@ pub mod ZoneAgrees
 pub mod ZoneElements
 pub mod ZoneNames
 mod ZonesWithout
+pub mod NamedTrees
+pub mod ThereDone
 mod ZoneServed
 mod ZoneHeld
 mod ZoneTrees
@@ -91,5 +93,3 @@ mod LinesNamed
 mod ZoneLooked
 mod ZonePlaces
 mod ZoneDone
-pub mod NamedTrees
-pub mod ThereDone

@@ -51,7 +51,7 @@ use Rattle.hp_proc.specs.Heaps.{sockets_of}
 use Rattle.hp_proc.specs.HeldLines.{AttachesNoted}
 use Rattle.hp_proc.specs.HeldMarks.{HoldsMarked, marked_with}
 use Rattle.hp_proc.specs.MappedChunks.{MapsChunk}
-use Rattle.hp_proc.specs.MarksInHand.{HoldsNamedMarked, KeepsMarked}
+use Rattle.hp_proc.specs.MarksInHand.{HoldsNamedMarked, KeepsMarked, NotesMapped}
 use Rattle.hp_proc.specs.NamesInHand.{DoesNamedHeld}
 use Rattle.hp_proc.specs.OwnChunks.{chunks_of, with_own_chunk}
 use Rattle.hp_proc.specs.ParticipantView.{ParticipantView, after_call, noting_chunks, participant_of, with_party}
@@ -251,6 +251,19 @@ notes_chunk {party} {validators} {context} {noted} {mid} {counted} {old} {party'
     ∙ ap (λ (d : ParticipantView). with_own_chunk (record { heap = at; addr = addr; len = len }) d.context.standing.chunks) was in
     ap (participant_of party validators) notes ∙ ap (noting_chunks items) (view ∙ counts)
     ∙ ap (λ (chunks : List OwnChunk). noting_chunks chunks (after_call mid)) kept
+
+pub noted_mapped : (note : OwnChunk) (old mid new : ParticipantView) (maps : MapsView) → mid ≡ with_party (with_maps maps old.party) old
+    → new ≡ noting_chunks (with_own_chunk note old.context.standing.chunks) (after_call mid) → NotesMapped answer.Done note old.context new.context
+noted_mapped note old mid new maps only noted =
+    ap (λ (d : ParticipantView). d.context.standing) noted
+    ∙ ap (λ (d : ParticipantView). record d.context.standing { chunks = with_own_chunk note old.context.standing.chunks }) only
+
+pub refused_notes : (note : OwnChunk) (fault : AttachFault) (old new : Context) → new.standing ≡ old.standing
+    → NotesMapped (attach_said fault) note old new
+refused_notes note attach.NotFound old new same = same
+refused_notes note attach.NoChunk old new same = same
+refused_notes note attach.Already old new same = same
+refused_notes note (attach.MapRefused number) old new same = same
 
 -- nothing was done
 pub nothing_keeps : (old : ParticipantView) (names : NamesView) (heap : HeapView) (state : HallState)

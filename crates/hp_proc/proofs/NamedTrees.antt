@@ -1,5 +1,5 @@
 -- What a line on an external heap does, by the heap that its name means: it takes notice of that heap's state, or not, and then it does its act.
-use Rattle.std.proofs.Common.{◌<◌, ◌∙◌, ◌≡◌, ◌⊎◌, Bool, Err, List, None, Some, ap, cond, inl, inr, not, refl, slice_get, subst, sym, ℕ}
+use Rattle.std.proofs.Common.{◌<◌, ◌∙◌, ◌≡◌, ◌≢◌, ◌⊎◌, Bool, Err, List, None, Some, ap, cond, inl, inr, not, refl, slice_get, subst, sym, ℕ}
 use Rattle.std.proofs.lemmas.Bool.{false_from_ne_true}
 use Rattle.std.specs.List.{list_any}
 use Rattle.hp_base.specs.declared.limits.TheConstants.{MAX_HEAPS}
@@ -7,8 +7,11 @@ use Rattle.hp_base.specs.declared.pool_line.PoolLine.{PoolLine}
 use Rattle.hp_external.specs.Creating.{IsPlaceFor}
 use Rattle.hp_external.specs.Naming.{IsExternalName}
 use Rattle.hp_external.specs.declared.fault.ChunkFault.TheVariants as chunk
+use Rattle.hp_external.specs.declared.fault.ChunkFault.{ChunkFault}
 use Rattle.hp_external.specs.declared.fault.CreateFault.TheVariants as create
+use Rattle.hp_external.specs.declared.fault.CreateFault.{CreateFault}
 use Rattle.hp_external.specs.declared.fault.NameFault.TheVariants as name
+use Rattle.hp_external.specs.declared.fault.NameFault.{NameFault}
 use Rattle.hp_heap.specs.Chunks.{chunk_at}
 use Rattle.hp_heap.specs.PlainHeap.{PlainHeap}
 use Rattle.hp_proc.proofs.ExternalMeant.{directory_is, external_serves, unnamed_serves}
@@ -16,7 +19,7 @@ use Rattle.hp_proc.proofs.MadeHeaps.{making_agrees}
 use Rattle.hp_proc.proofs.MeantHeaps.{meanings_agree}
 use Rattle.hp_proc.proofs.Reservations.{short_from, short_to}
 use Rattle.hp_proc.specs.Doing.{Doing}
-use Rattle.hp_proc.specs.ExternalAnswers.{IsChunkAnswer, IsCreateAnswer, IsExternalAct, IsHeapMeant, IsMeant, IsNameAnswer, IsNamedHeap}
+use Rattle.hp_proc.specs.ExternalAnswers.{IsChunkAnswer, IsCreateAnswer, IsExternalAct, IsHeapMeant, IsMeant, IsNameAnswer, IsNamedHeap, chunk_said, create_said, name_said}
 use Rattle.hp_proc.specs.ExternalLines.{adding_memory, destroying, destroying_heap, leaving_chunk, leaving_memory, making, making_heap, mapping, mapping_memory, on_chunks_of, on_external, planning, removing, removing_memory, seeing_heap}
 use Rattle.hp_proc.specs.Handing.{shared_of}
 use Rattle.hp_proc.specs.Heaps.{has_name, sockets_of}
@@ -40,6 +43,32 @@ pub record SeesFirst (heap : PlainHeap) (tree held : Doing) : Type 0 where
 
 abbrev pub Notices : PlainHeap → Doing → Doing → Type 0
 Notices heap tree held = SeesFirst heap tree held ⊎ (tree ≡ held)
+
+-- a line that means no heap is answered otherwise than one that was done
+create_undone : (fault : CreateFault) (given : Answer) → create_said fault ≡ Some given → given ≢ answer.Done
+create_undone create.BadName given said done = cc
+create_undone create.Exists given said done = cc
+create_undone (create.NoSpace limit) given said done = cc
+create_undone create.OutOfMemory given said done = cc
+
+name_undone : (fault : NameFault) (given : Answer) → given ≡ name_said fault → given ≢ answer.Done
+name_undone name.BadName given said done = cc
+name_undone name.NotFound given said done = cc
+name_undone name.SocketHeap given said done = cc
+
+chunk_undone : (fault : ChunkFault) (given : Answer) → given ≡ chunk_said fault → given ≢ answer.Done
+chunk_undone chunk.NotFound given said done = cc
+chunk_undone chunk.NoChunk given said done = cc
+
+pub refused_undone : (plain : PlainDirectory) (deed : Act) (given : Answer) → IsExternalAct deed → IsHeapMeant deed plain (Err given)
+    → given ≢ answer.Done
+refused_undone plain (act.Heap name) given external why = create_undone why.0 given why.1
+refused_undone plain (act.Unheap name) given external why = name_undone why.0 given why.1
+refused_undone plain (act.Add heap addr len page) given external why = name_undone why.0 given why.1
+refused_undone plain (act.Remove heap addr len) given external why = name_undone why.0 given why.1
+refused_undone plain (act.Map heap addr len) given external why = chunk_undone why.0 given why.1
+refused_undone plain (act.Unmap heap addr len) given external why = chunk_undone why.0 given why.1
+refused_undone plain _ given external why = absurd external
 
 module _ (who : ℕ) (pools : List PoolLine) (names : NamesView) (sound : IsDirectory names.heaps)
     (sockets : names.heaps.sockets ≡ sockets_of pools) where

@@ -1,5 +1,5 @@
 -- A line on an external heap, with the names in hand: it takes the heap, does its act with both, and gives the heap back.
-use Rattle.std.proofs.Common.{◌++◌, ◌+◌, ◌<◌, ◌∙◌, ◌∷◌, ◌≡◌, ◌≢◌, ◌≤◌, Bool, List, None, Option, Some, [], ap, append-nil, arith, cond, eqb, false, filter_map, fold, inl, inr, length, map, option_map, refl, slice_get, subst, sym, true, true≢false, ℕ, ⊎_elim}
+use Rattle.std.proofs.Common.{◌++◌, ◌+◌, ◌<◌, ◌∙◌, ◌∷◌, ◌≡◌, ◌≢◌, ◌≤◌, Bool, Err, List, None, Ok, OnErr, Option, Result, Some, [], ap, append-nil, arith, cond, eqb, false, filter_map, fold, inl, inr, length, map, option_map, refl, slice_get, subst, sym, true, true≢false, ℕ, ⊎_elim}
 use Rattle.std.proofs.lemmas.Bool.Decides.{eqb_tells}
 use Rattle.std.proofs.lemmas.Bool.{cases_eq}
 use Rattle.std.proofs.lemmas.List.Elements.{filter-append, filter_map-append}
@@ -7,8 +7,8 @@ use Rattle.std.proofs.lemmas.List.Sums.{fold-append}
 use Rattle.std.specs.Option.{option_flatten}
 use Rattle.hp_base.specs.declared.limits.TheConstants.{MAX_HEAPS}
 use Rattle.hp_external.specs.Naming.{IsExternalName}
-use Rattle.hp_hall.proofs.HallStates.{did_then}
-use Rattle.hp_hall.specs.HallState.{HallState, OthersStay, SlotsStayBut}
+use Rattle.hp_hall.proofs.HallStates.{did_same, did_then}
+use Rattle.hp_hall.specs.HallState.{HallState, OthersStay, SlotsStay, SlotsStayBut}
 use Rattle.hp_hall.specs.Holding.{HeapPart}
 use Rattle.hp_hall.specs.Mail.{MailStep}
 use Rattle.hp_hall.specs.Naming.{Naming, naming_of}
@@ -20,8 +20,9 @@ use Rattle.hp_heap.specs.declared.entry.Entry.{Entry}
 use Rattle.hp_proc.proofs.Halted.{halts_then, then_halts}
 use Rattle.hp_proc.proofs.HandFacts.HandMarks.{holds_marked}
 use Rattle.hp_proc.proofs.HandFacts.HandNamed.{known_here, names_entries}
+use Rattle.hp_proc.proofs.HandFacts.OnceHeld.{once_none, once_one}
 use Rattle.hp_proc.proofs.InHandUntold.{changes_none, still_leads}
-use Rattle.hp_proc.proofs.Joining.{does_then}
+use Rattle.hp_proc.proofs.Joining.{does_same, does_then}
 use Rattle.hp_proc.proofs.LinesOrdered.{read_on, untold_both}
 use Rattle.hp_proc.proofs.NamedTrees.{Notices}
 use Rattle.hp_proc.proofs.NamesAround.{names_give_on}
@@ -35,8 +36,8 @@ use Rattle.hp_proc.specs.Heaps.{sockets_of}
 use Rattle.hp_proc.specs.HeldMarks.{HasMarksOf, IsTiedWith}
 use Rattle.hp_proc.specs.Histories.{entries_for}
 use Rattle.hp_proc.specs.LineInHall.{AreFreeBesideNames, AreFreeBut, HaltsHere, HasCalledBeside, HoldsIn, IsAsTaken, IsBesideTheNames, IsFreeAt, SeesHeap, TableStays, did_in, moment, moment_with}
-use Rattle.hp_proc.specs.MarksInHand.{HoldsNamedMarked, KeepsMarked}
-use Rattle.hp_proc.specs.NamesInHand.{AgreesStill, DoesNamed, DoesNamedHeld, HaltsNamed, HaltsNamedHeld, IsReadyNamed, KeepsAgreed, TakesAgreed, entries_in}
+use Rattle.hp_proc.specs.MarksInHand.{HoldsNamedMarked}
+use Rattle.hp_proc.specs.NamesInHand.{AgreesStill, DoesNamed, DoesNamedHeld, DoesNamedOnce, HaltsNamed, HaltsNamedHeld, HaltsNamedOnce, IsReadyNamed, KeepsAgreed, TakesAgreed, entries_in}
 use Rattle.hp_proc.specs.NamesLog.{change_made}
 use Rattle.hp_proc.specs.NamesOfLines.{ChangesNames, names_after, names_read}
 use Rattle.hp_proc.specs.OwnChunks.{own_chunk}
@@ -300,20 +301,20 @@ module _ (index : ℕ) (old mid new : ParticipantView) (names given : NamesView)
 
 -- THE HEAP IS GIVEN BACK
 
-module _ (mid new : ParticipantView) (given : NamesView) (heap next : HeapView) {from at between to : HallState}
-    (free : AreFreeBesideNames heap.plain.index mid.party.me from at) (keeps : KeepsMarked mid.party.me mid new given heap next at between)
-    (own : new.party.me ≡ mid.party.me)
-    (put : (doing : Doing) → Does [] between.count (did_in mid.party.me between to) doing doing (moment_with next mid.party.me new between)
-    (moment mid.party.me new to))
-    (ready : MayDo (moment mid.party.me new to)) (marks : HasMarksOf mid.party.me next between to)
-    (tied : IsTiedWith mid.party.me new.party next between → IsTiedIn mid.party.me new.party to) (table : TableStays mid.party.me between to)
-    (agreed : KeepsAgreed mid.party.me next between to) (home : IsFreeAt next.plain.index to) (slots : SlotsStayBut next.plain.index between to)
-    (others : OthersStay mid.party.me between to) where
+module _ (me slot : ℕ) (new : ParticipantView) (given : NamesView) (next : HeapView) {from at between to : HallState}
+    (free : AreFreeBesideNames slot me from at) (holds : HoldsNamedMarked new.party.me new given next between) (index : next.plain.index ≡ slot)
+    (kept : SlotsStay at between)
+    (put : (doing : Doing) → Does [] between.count (did_in new.party.me between to) doing doing (moment_with next new.party.me new between)
+    (moment new.party.me new to))
+    (ready : MayDo (moment new.party.me new to)) (marks : HasMarksOf new.party.me next between to)
+    (tied : IsTiedWith new.party.me new.party next between → IsTiedIn new.party.me new.party to) (table : TableStays new.party.me between to)
+    (agreed : KeepsAgreed new.party.me next between to) (home : IsFreeAt next.plain.index to) (slots : SlotsStayBut next.plain.index between to)
+    (others : OthersStay new.party.me between to) where
   abbrev who : ℕ
-  who = mid.party.me
+  who = new.party.me
 
   few : next.plain.index < MAX_HEAPS
-  few = keeps.holds.holds.in_hand.few
+  few = holds.holds.in_hand.few
 
   below : (number : ℕ) → number ≤ NAMES_SLOT → number ≢ NAMES_SLOT → number < NAMES_SLOT
   below number few away = omega (arith, few, away)
@@ -326,30 +327,28 @@ module _ (mid new : ParticipantView) (given : NamesView) (heap next : HeapView) 
     taken = λ number away.
         ⊎_elim (λ (is : number ≡ next.plain.index). ap to.taken is ∙ home.taken)
         (λ (apart : number ≢ next.plain.index).
-        slots.taken number apart ∙ (keeps.slots.taken number ∙ free.taken number (λ same. apart (same ∙ sym keeps.index)) away))
+        slots.taken number apart ∙ (kept.taken number ∙ free.taken number (λ same. apart (same ∙ sym index)) away))
         (cases_eq number next.plain.index);
     home = λ number few away.
         ⊎_elim (λ (is : number ≡ next.plain.index). subst to.may_take (sym is) home.home)
         (λ (apart : number ≢ next.plain.index).
         slots.home number apart
-        (keeps.slots.home number (free.home number (below number few away) (λ same. apart (same ∙ sym keeps.index)))))
+        (kept.home number (free.home number (below number few away) (λ same. apart (same ∙ sym index)))))
         (cases_eq number next.plain.index);
   }
 
-  given_entries : (index : ℕ) → (more : List Entry) × (entries_in who to index ≡ entries_in who between index ++ more)
-  given_entries index =
+  given_entries : (heap : ℕ) → (more : List Entry) × (entries_in who to heap ≡ entries_in who between heap ++ more)
+  given_entries heap =
       let does = put (Doing.Ended answer.Done) in
-      let held = held_entries who new next between own keeps.holds.holds.in_hand index in
-      (held.0, does.entries index
-      ∙ (ap (λ (trace : List Done). (with_hand new.party.me next (between.part who) index).entries
-      ++ entries_for new.party.me index (new.context.calls + 1) (calls_in trace)) (still_leads (Doing.Ended answer.Done) does.trace does.leads)
-      ∙ (append-nil (with_hand new.party.me next (between.part who) index).entries
-      ∙ (ap (λ (me : ℕ). (with_hand me next (between.part who) index).entries) own ∙ held.1))))
+      let held = held_entries who new next between refl holds.holds.in_hand heap in
+      (held.0, does.entries heap
+      ∙ (ap (λ (trace : List Done). (with_hand who next (between.part who) heap).entries
+      ++ entries_for who heap (new.context.calls + 1) (calls_in trace)) (still_leads (Doing.Ended answer.Done) does.trace does.leads)
+      ∙ (append-nil (with_hand who next (between.part who) heap).entries ∙ held.1)))
 
   -- the names are in hand still
   pub ready_there : IsReadyNamed who new given to
   ready_there =
-      let holds = keeps.holds in
       let may = holds.holds.may in
       record {
         but = record {
@@ -360,7 +359,7 @@ module _ (mid new : ParticipantView) (given : NamesView) (heap next : HeapView) 
           ready = ready;
           attached = table.joined ∙ holds.holds.attached;
           named = (others.later.named who).sockets ∙ holds.holds.named;
-          chunks = λ index. ap (map (own_chunk index)) (marks index) ∙ holds.holds.chunks index;
+          chunks = λ heap. ap (map (own_chunk heap)) (marks heap) ∙ holds.holds.chunks heap;
         };
         told = agreed.told ∙ holds.told;
         was = holds.was;
@@ -395,3 +394,27 @@ module _ (old new : ParticipantView) (names : NamesView) {from to : HallState} (
         agrees = agreed names ready.agrees;
         sockets = ready.sockets ∙ sym (ap (λ (k : Context). sockets_of k.pools) called.context);
       }
+
+pub on_err_map : {T E : Type 0} {P Q : Type 0} (result : Result T E) → (P → Q) → OnErr result P → OnErr result Q
+on_err_map (Ok value) goes was = tt
+on_err_map (Err error) goes was = goes was
+
+-- ONE HEAP, OR NONE
+
+pub once_there : {index me : ℕ} {old new : ParticipantView} {names given : NamesView} {from to : HallState} {tree rest : Doing}
+    → DoesNamed (index ∷ []) me old new names given from to tree rest → DoesNamedOnce me old new names given from to tree rest
+once_there {index} is = record { does = record { held = index ∷ []; once = once_one index; does = is.does }; names = is.names }
+
+pub halts_once : {index me : ℕ} {old new : ParticipantView} {names given : NamesView} {from to : HallState} {tree : Doing}
+    → HaltsNamed (index ∷ []) me old new names given from to tree → HaltsNamedOnce me old new names given from to tree
+halts_once {index} is = record { heaps = index ∷ []; once = once_one index; halts = is }
+
+pub refused_once : (old : ParticipantView) (names : NamesView) (state : HallState) (tree : Doing) (given : Answer) → tree ≡ Doing.Ended given
+    → DoesNamedOnce old.party.me old old names names state state tree (Doing.Ended given)
+refused_once old names state tree given is =
+    subst (λ (tree : Doing). DoesNamedOnce old.party.me old old names names state state tree (Doing.Ended given)) (sym is)
+    (let does = does_same state.count (did_in old.party.me state state) (Doing.Ended given) (moment old.party.me old state) (did_same old.party.me state) in
+    record {
+      does = record { held = []; once = once_none; does = does };
+      names = quiet names does.trace (still_leads (Doing.Ended given) does.trace does.leads);
+    })

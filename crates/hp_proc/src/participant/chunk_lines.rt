@@ -13,7 +13,7 @@ ghost use Rattle.hp_proc.specs.ExternalLines.{leaving_all, mapping};
 ghost use Rattle.hp_proc.specs.HeldLines.{DetachesNoted};
 ghost use Rattle.hp_proc.specs.LineInHall.{DoesHere, DoesOnceHere, HaltsHere, HasRoom, IsReadyAgain, IsReadyIn};
 ghost use Rattle.hp_proc.specs.LeavesChunks.{LeavesInHand, LeavesNoted};
-ghost use Rattle.hp_proc.specs.MarksInHand.{HoldsNamedMarked, KeepsMarked};
+ghost use Rattle.hp_proc.specs.MarksInHand.{HoldsNamedMarked, KeepsMarked, NotesMapped};
 ghost use Rattle.hp_proc.specs.NamesInHand.{DoesNamedHeld, StandsStill};
 ghost use Rattle.hp_proc.specs.OwnChunks.{AreFirstOf, AreMarkedAs, chunks_beside, chunks_of};
 ghost use Rattle.hp_proc.specs.ParticipantView.{with_party};
@@ -114,6 +114,7 @@ impl<'p, M: Mapper, F: Decide + Copy + Drop> Participant<'p, M, F> {
             (H.state hall.old) (H.state hall.new) (mapping self.old.party.me heap.old.plain.index addr len (chunk_at addr len heap.old.plain)) (Doing.Ended given)) }
         ensures err { OnErr result (StandsStill self.old self.new names.now names.now heap.old heap.new × (hall.new ≡ hall.old)) }
         ensures keeps { KeepsMarked self.old.party.me self.old self.new names.now heap.old heap.new (H.state hall.old) (H.state hall.new) }
+        ensures noted { IfOk result (λ given. NotesMapped given (record { heap = heap.old.plain.index; addr = addr; len = len }) self.old.context self.new.context) }
         ensures goes_on { H.goes_on hall.old hall.new }
     {
         if self.is_worn() {

@@ -8,7 +8,7 @@ ghost use Rattle.hp_proc.specs.ExternalAnswers.{IsChunkAnswer, IsCreateAnswer, I
 ghost use Rattle.hp_proc.specs.Handing.{shared_of};
 ghost use Rattle.hp_proc.specs.LineInHall.{DoesLineHere, HaltsLineHere, HasRoom, IsAsTaken, IsReadyAgain, IsReadyIn};
 ghost use Rattle.hp_proc.specs.LineTrees.{doing_held, doing_named};
-ghost use Rattle.hp_proc.specs.MarksInHand.{HoldsNamedMarked, KeepsMarked};
+ghost use Rattle.hp_proc.specs.MarksInHand.{HoldsNamedMarked, KeepsMarked, NotesAct, NotesNamed};
 ghost use Rattle.hp_proc.specs.NamesInHand.{DoesNamed, DoesNamedHeld, DoesNamedOnce, HaltsNamed, HaltsNamedHeld, HaltsNamedOnce, IsIndexMeant, IsReadyNamed};
 ghost use Rattle.hp_serve.specs.Clocks.{RisesWithin};
 
@@ -130,6 +130,7 @@ impl<'p, M: Mapper, F: Decide + Copy + Drop> Participant<'p, M, F> {
         ensures halts { OnErr result (HaltsNamedHeld self.old.party.me self.old self.new names.old names.new heap.old heap.new
             (H.state hall.old) (H.state hall.new) (doing_held self.old.party.me self.old.context.pools act.now (shared_of names.old) heap.old.plain)) }
         ensures keeps { KeepsMarked self.old.party.me self.old self.new names.new heap.old heap.new (H.state hall.old) (H.state hall.new) }
+        ensures noted { IfOk result (λ given. NotesAct act.now heap.old.plain.index given self.old.context self.new.context) }
         ensures goes_on { H.goes_on hall.old hall.new }
     {
         heap.chunks();
@@ -181,6 +182,7 @@ impl<'p, M: Mapper, F: Decide + Copy + Drop> Participant<'p, M, F> {
         ensures halts { OnErr result (HaltsNamed (index ∷ []) self.old.party.me self.old self.new names.old names.new (H.state hall.old)
             (H.state hall.new) (doing_named self.old.party.me self.old.context.pools act.now (shared_of names.old))) }
         ensures ready { IsReadyNamed self.old.party.me self.new names.new (H.state hall.new) }
+        ensures noted { IfOk result (λ given. NotesAct act.now index given self.old.context self.new.context) }
         ensures clock { RisesWithin H.pending (λ hall. IsBusy (H.state hall)) 0 (H.state hall.old).clock (H.state hall.new).clock }
         ensures goes_on { H.goes_on hall.old hall.new }
     {
@@ -205,6 +207,7 @@ impl<'p, M: Mapper, F: Decide + Copy + Drop> Participant<'p, M, F> {
         ensures halts { OnErr result (HaltsNamedOnce self.old.party.me self.old self.new names.old names.new (H.state hall.old)
             (H.state hall.new) (doing_named self.old.party.me self.old.context.pools act.now (shared_of names.old))) }
         ensures ready { IsReadyNamed self.old.party.me self.new names.new (H.state hall.new) }
+        ensures noted { IfOk result (λ given. NotesNamed act.now names.old.heaps.plain given self.old.context self.new.context) }
         ensures clock { RisesWithin H.pending (λ hall. IsBusy (H.state hall)) 0 (H.state hall.old).clock (H.state hall.new).clock }
         ensures goes_on { H.goes_on hall.old hall.new }
     {

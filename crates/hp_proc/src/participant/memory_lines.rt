@@ -171,6 +171,7 @@ impl<'p, M: Mapper, F: Decide + Copy + Drop> Participant<'p, M, F> {
         ensures halts { OnErr result (HaltsNamedHeld self.old.party.me self.old self.new names.old names.new heap.old heap.new
             (H.state hall.old) (H.state hall.new) (planning addr len page heap.old.plain.index heap.old.plain.socket)) }
         ensures keeps { KeepsMarked self.old.party.me self.old self.new names.new heap.old heap.new (H.state hall.old) (H.state hall.new) }
+        ensures noted { self.new.context.standing ≡ self.old.context.standing }
         ensures goes_on { H.goes_on hall.old hall.new }
     {
         let me = self.number();
@@ -209,6 +210,7 @@ impl<'p, M: Mapper, F: Decide + Copy + Drop> Participant<'p, M, F> {
         ensures does { DoesNamedHeld self.old.party.me self.old self.new names.old names.new heap.old heap.new
             (H.state hall.old) (H.state hall.new) (removing heap.old.plain.index addr len heap.old.plain (chunk_at addr len heap.old.plain)) (Doing.Ended result) }
         ensures keeps { KeepsMarked self.old.party.me self.old self.new names.new heap.old heap.new (H.state hall.old) (H.state hall.new) }
+        ensures noted { self.new.context.standing ≡ self.old.context.standing }
         ensures goes_on { H.goes_on hall.old hall.new }
     {
         let me = self.number();

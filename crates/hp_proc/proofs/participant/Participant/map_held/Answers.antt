@@ -1,19 +1,19 @@
 -- A chunk of the heap in hand is attached, or is not.
-use Rattle.std.proofs.Common.{◌≡◌, ◌∙◌, List, ap, refl, subst, sym, ℕ}
+use Rattle.std.proofs.Common.{◌∙◌, ap, subst, sym, ℕ}
 use Rattle.hp_base.specs.Mapping.{AreApart}
-use Rattle.hp_external.specs.Attaching.{IsAttachFault}
 use Rattle.hp_heap.specs.ChunkOrder.{AreInOrder}
 use Rattle.hp_heap.specs.Chunks.{chunk_at}
 use Rattle.hp_heap.specs.History.{HeapView}
 use Rattle.hp_proc.proofs.HandFacts.HandTraded.{took_by}
-use Rattle.hp_proc.proofs.MappedHere.{attaches_noted, map_refused, mapped_does, mapped_keeps, may_attach_then, nothing_keeps, notes_chunk}
+use Rattle.hp_proc.proofs.MappedHere.{attaches_noted, map_refused, mapped_does, mapped_keeps, may_attach_then, noted_mapped, notes_chunk, nothing_keeps, refused_notes}
 use Rattle.hp_proc.proofs.participant.Participant.map_held.Goals as goal
 use Rattle.hp_proc.specs.Doing.{Doing}
 use Rattle.hp_proc.specs.ExternalAnswers.{attach_said}
 use Rattle.hp_proc.specs.ExternalLines.{mapping}
-use Rattle.hp_proc.specs.MarksInHand.{KeepsMarked}
+use Rattle.hp_proc.specs.MarksInHand.{KeepsMarked, NotesMapped}
 use Rattle.hp_proc.specs.NamesInHand.{DoesNamedHeld}
 use Rattle.hp_proc.specs.ParticipantView.{ParticipantView}
+use Rattle.hp_proc.specs.declared.own_chunk.OwnChunk.{OwnChunk}
 use Rattle.hp_script.specs.declared.answer.Answer.{Answer}
 use Rattle.hp_serve.proofs.SegmentSlots.{took_has}
 use Rattle.hp_serve.specs.Party.{Party}
@@ -88,6 +88,13 @@ returns-in-Ok-clause-keeps g c =
     (attaches_noted c.args.text.now c.args.addr c.args.len doer c.attach_in.new.self _ c.args.names.now.heaps.plain c.args.heap.now c.attach_in.new.heap
     c.attach_in.ensures.only c.in-Ok.ensures.attached noted)
 
+pub returns-in-Ok-clause-noted : goal.returns-in-Ok-clause-noted
+returns-in-Ok-clause-noted g c =
+    let doer = c.args.self.now in
+    let noted = notes_chunk c.self-in-Ok.view_is c.count_call.ensures c.note_chunks.ensures c.in_ok-chunks.ensures.are c.self.view_is c.index.ensures in
+    noted_mapped (record { heap = c.args.heap.now.plain.index; addr = c.args.addr; len = c.args.len }) doer c.attach_in.new.self _
+    c.attach_in.new.self.party.maps c.attach_in.ensures.only noted
+
 pub returns-in-Ok-clause-goes_on : goal.returns-in-Ok-clause-goes_on
 returns-in-Ok-clause-goes_on g c = g.met.H.Hall.goes_on_then _ _ _ c.take_segments-segs.ensures.goes_on c.put_back.ensures.goes_on
 
@@ -127,6 +134,13 @@ returns-in-Err-clause-keeps g c =
     let refuses = map_refused doer c.attach_in.new.self names heap c.take_segments-segs.result c.args.text.now c.args.addr c.args.len took
     c.requires.holds put c.attach_in.ensures.only c.requires.meant c.in-Err.fault c.in-Err.ensures.refused in
     subst (λ (h : HeapView). KeepsMarked doer.party.me doer c.attach_in.new.self names heap h old last) (sym c.in-Err.ensures.err) refuses.keeps
+
+pub returns-in-Err-clause-noted : goal.returns-in-Err-clause-noted
+returns-in-Err-clause-noted g c =
+    let note : OwnChunk = record { heap = c.args.heap.now.plain.index; addr = c.args.addr; len = c.args.len } in
+    subst (λ (said : Answer). NotesMapped said note c.args.self.now.context c.attach_in.new.self.context) (sym c.attach_answer.ensures)
+    (refused_notes note c.in-Err.fault c.args.self.now.context c.attach_in.new.self.context
+    (ap (λ (d : ParticipantView). d.context.standing) c.attach_in.ensures.only))
 
 pub returns-in-Err-clause-goes_on : goal.returns-in-Err-clause-goes_on
 returns-in-Err-clause-goes_on g c = g.met.H.Hall.goes_on_then _ _ _ c.take_segments-segs.ensures.goes_on c.put_back-in-Err.ensures.goes_on

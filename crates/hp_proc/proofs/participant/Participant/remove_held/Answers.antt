@@ -1,5 +1,5 @@
 -- Memory goes from the heap in hand, or is refused.
-use Rattle.std.proofs.Common.{◌≡◌, Contains, Err, subst, sym, ℕ}
+use Rattle.std.proofs.Common.{◌≡◌, Contains, Err, ap, subst, sym, ℕ}
 use Rattle.hp_base.specs.declared.chunk.Chunk.{Chunk}
 use Rattle.hp_base.specs.declared.limits.TheConstants.{MAX_HEAPS}
 use Rattle.hp_base.specs.declared.tag.Caller.{Caller}
@@ -13,7 +13,6 @@ use Rattle.hp_heap.specs.ChunkOrder.{AreInOrder}
 use Rattle.hp_heap.specs.Chunks.{chunk_at}
 use Rattle.hp_heap.specs.History.{HeapView}
 use Rattle.hp_proc.proofs.AddedHere.{claimed_here, looked_does, looked_keeps}
-
 use Rattle.hp_proc.proofs.HandFacts.HandNamed.{listed_here}
 use Rattle.hp_proc.proofs.HandFacts.HandTraded.{took_by}
 use Rattle.hp_proc.proofs.RemovedHere.{gives_removed, remove_refused, removed_does, removed_keeps}
@@ -110,6 +109,9 @@ returns-in-Ok-clause-keeps g c =
     subst (λ (d : ParticipantView). KeepsMarked doer.party.me doer d new.names c.args.heap.now new.heap old last) (sym c.count_call.ensures)
     (removed_keeps doer c.args.names.now new.names c.args.heap.now new.heap c.take_segments-segs.result new.segs c.args.text.now c.args.addr c.args.len
     took c.requires.holds (subst AreInOrder c.chunks.ensures.chunks c.chunks.ensures.order) c.requires.as_taken c.requires.meant removes back c.are_sound.ensures)
+
+pub returns-in-Ok-clause-noted : goal.returns-in-Ok-clause-noted
+returns-in-Ok-clause-noted g c = ap (λ (d : ParticipantView). d.context.standing) c.count_call.ensures
 
 pub returns-in-Ok-clause-goes_on : goal.returns-in-Ok-clause-goes_on
 returns-in-Ok-clause-goes_on g c = g.met.H.Hall.goes_on_then _ _ _ c.take_segments-segs.ensures.goes_on c.give_back.ensures.goes_on
