@@ -91,3 +91,5 @@ mod ZoneHeld
 mod ZoneTrees
 mod LinesNamed
 mod ZoneLooked
+mod ZonePlaces
+mod ZoneDone
