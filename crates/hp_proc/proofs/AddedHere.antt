@@ -1,5 +1,5 @@
 -- Memory that comes to the external heap in hand, or is refused, while the segment value is in hand too.
-use Rattle.std.proofs.Common.{◌++◌, ◌<◌, ◌∙◌, ◌∷◌, ◌≡◌, ◌≤◌, ◌⊎◌, Contains, Err, IfOk, List, None, OnErr, Option, Result, Some, [], ap, append-nil, ap₂, count_by, eqb, false, inl, option_map, refl, subst, sym, true, ℕ}
+use Rattle.std.proofs.Common.{◌++◌, ◌<◌, ◌∙◌, ◌∷◌, ◌≡◌, ◌≤◌, ◌⊎◌, Contains, Err, IfOk, List, None, OnErr, Option, Result, Some, [], ap, append-nil, ap₂, count_by, eqb, false, inl, option_map, refl, subst, sym, true, ℕ, Ok}
 use Rattle.std.proofs.lemmas.List.Elements.{Contains-append_left, Contains-append_right}
 use Rattle.std.proofs.lemmas.List.Sums.{fold-append}
 use Rattle.std.specs.List.Sorted.{IsPermutation}

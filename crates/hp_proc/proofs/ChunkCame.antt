@@ -9,7 +9,7 @@ use Rattle.hp_events.proofs.ListFacts.{map_filter}
 use Rattle.hp_hall.specs.Naming.{marked_by, naming_of, unmarked}
 use Rattle.hp_heap.proofs.AllocFacts.ChoiceLaw.{Contains-cases, Contains-filter}
 use Rattle.hp_heap.proofs.HistoryFacts.BusyLaw.{leaves_busy}
-use Rattle.hp_heap.proofs.HistoryFacts.BusyLemmas.{elsewhere}
+use Rattle.hp_heap.proofs.ChunkFacts.ChunkTiling.{elsewhere}
 use Rattle.hp_heap.proofs.Members.{AllByRecursion-each, filter_alike}
 use Rattle.hp_heap.specs.ChunkOrder.{AreInOrder}
 use Rattle.hp_heap.specs.Chunks.{CanAddChunk, after_chunk, after_unchunk, chunk_at, with_chunk, without_chunk}

@@ -5,9 +5,10 @@ use Rattle.std.proofs.lemmas.Bool.{cases_lt}
 use Rattle.std.proofs.lemmas.List.Elements.{All-get_or}
 use Rattle.std.proofs.lemmas.Option.{slice_get-get_or, slice_get_within}
 use Rattle.hp_base.specs.declared.pool_line.PoolLine.{PoolLine}
-use Rattle.hp_external.specs.Naming.{IsExternalName, IsNameFault, IsSocketName}
+use Rattle.hp_external.specs.Naming.{IsExternalName, IsNameFault, IsSocketName, IsThatHeap}
 use Rattle.hp_external.specs.declared.fault.NameFault.TheVariants as name
 use Rattle.hp_external.specs.declared.fault.NameFault.{NameFault}
+use Rattle.hp_heap.specs.PlainHeap.{PlainHeap}
 use Rattle.hp_proc.specs.ExternalAnswers.{IsMeant, IsNamedHeap}
 use Rattle.hp_proc.specs.Handing.{shared_of}
 use Rattle.hp_proc.specs.Heaps.{sockets_of}
@@ -99,3 +100,9 @@ no_fault plain text index name.SocketHeap named fault = not_socket plain text in
 pub directory_is : (pools : List PoolLine) (names : NamesView) → IsDirectory names.heaps → names.heaps.sockets ≡ sockets_of pools
     → names.heaps.plain ≡ directory_in pools (shared_of names)
 directory_is pools names sound sockets = sound.replayed ∙ ap (λ (s : List ℕ). directory_after (opening s) names.heaps.log) sockets
+
+-- a heap that a text means is that of its name
+pub that_heap : (plain : PlainDirectory) (text : List ℕ) (heap : PlainHeap) → IsMeant plain text heap.index → heap.serves ≡ None
+    → IsThatHeap plain text heap
+that_heap plain text heap meant external index socket is =
+    record { index_is = (found_same plain text heap.index meant.socket index socket meant.named.found is.found).0; external = external }

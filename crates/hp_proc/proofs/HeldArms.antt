@@ -1,5 +1,5 @@
 -- What the lines on external heaps did that make no step in a hall: they make a heap, destroy one, or leave a chunk, or are refused.
-use Rattle.std.proofs.Common.{◌-◌, ◌^◌, ◌∙◌, ◌≡◌, Bool, Err, IfErr, IfOk, List, None, OnErr, OnOk, Option, Result, Some, [], ap, append-nil, arith, cond, inl, inr, length, min, ne_eqb, refl, subst, sym, ℕ}
+use Rattle.std.proofs.Common.{◌-◌, ◌^◌, ◌∙◌, ◌≡◌, Bool, Err, IfErr, IfOk, List, None, OnErr, OnOk, Option, Result, Some, [], ap, append-nil, arith, cond, inl, inr, length, min, ne_eqb, refl, subst, sym, ℕ, Ok}
 use Rattle.hp_base.specs.declared.chunk.Chunk.{Chunk}
 use Rattle.hp_base.specs.declared.pool_line.PoolLine.{PoolLine}
 use Rattle.hp_external.specs.Attaching.{IsDetachFault}
@@ -30,6 +30,7 @@ use Rattle.hp_proc.proofs.LeastData.{data_agree}
 use Rattle.hp_proc.proofs.LeftHere.{left_does, left_holds, left_pools, left_same}
 use Rattle.hp_proc.proofs.MadeHere.{gone_does, gone_keeps, made_does, made_keeps}
 use Rattle.hp_proc.specs.Acting.{Acts, AreAsked}
+use Rattle.hp_proc.specs.Contexts.{Context}
 use Rattle.hp_proc.specs.Doing.{Doing, Goes, Leads}
 use Rattle.hp_proc.specs.ExternalAnswers.{IsMadeSaid, IsMeant, IsNamedHeap, destroy_said, detach_said, left_said}
 use Rattle.hp_proc.specs.ExternalLines.{calling, changing, destroying, leaving_chunk, leaving_unless, lowest_data, making}
@@ -37,7 +38,7 @@ use Rattle.hp_proc.specs.Halting.{ActsOn}
 use Rattle.hp_proc.specs.Heaps.{sockets_of}
 use Rattle.hp_proc.specs.HeldLines.{DestroysHeap, DetachesNoted, MakesHeap}
 use Rattle.hp_proc.specs.LeavesChunks.{LeavesNoted}
-use Rattle.hp_proc.specs.MarksInHand.{HoldsNamedMarked, KeepsMarked}
+use Rattle.hp_proc.specs.MarksInHand.{HoldsNamedMarked, KeepsMarked, NotesLeft}
 use Rattle.hp_proc.specs.NamesInHand.{DoesNamedHeld, HaltsNamedHeld, StandsStill}
 use Rattle.hp_proc.specs.ParticipantView.{ParticipantView, after_call}
 use Rattle.hp_proc.specs.Progress.{caller_of, with_hand}
@@ -293,3 +294,36 @@ module _ (old new : ParticipantView) (names : NamesView) (heap next : HeapView) 
         (still_does old new names names heap next state holds order still (Doing.Ended (detach_said fault)));
     keeps = still_keeps old new names names heap next state holds order still;
   }
+
+-- WHAT IT NOTES
+
+module _ (text : List ℕ) (old new : ParticipantView) (names given : NamesView) (heap next : HeapView) where
+  still_notes : StandsStill old new names given heap next → new.context.standing ≡ old.context.standing
+  still_notes still = ap (λ (d : ParticipantView). d.context.standing) still.doer
+
+  pub made_notes : (judged : Result ℕ CreateFault) → IfOk judged (MakesHeap text old new names given heap next)
+      → OnErr judged (StandsStill old new names given heap next) → new.context.standing ≡ old.context.standing
+  made_notes (Ok socket) made still = ap (λ (d : ParticipantView). d.context.standing) made.counted
+  made_notes (Err fault) made still = still_notes still
+
+  pub gone_notes : (judged : Result Unit DestroyFault) → OnOk judged (DestroysHeap text old new names given heap next)
+      → OnErr judged (StandsStill old new names given heap next) → new.context.standing ≡ old.context.standing
+  gone_notes (Ok done) gone still = ap (λ (d : ParticipantView). d.context.standing) gone.counted
+  gone_notes (Err fault) gone still = still_notes still
+
+refused_left : (note : OwnChunk) (fault : DetachFault) (old new : Context) → new.standing ≡ old.standing → NotesLeft (detach_said fault) note old new
+refused_left note detach.NotFound old new same = same
+refused_left note detach.NoChunk old new same = same
+refused_left note detach.NotAttached old new same = same
+refused_left note (detach.InUse place) old new same = same
+
+pub left_notes : (text : List ℕ) (note : OwnChunk) (old new : ParticipantView) (names : NamesView) (heap next : HeapView)
+    (judged : Result Unit DetachFault) → OnOk judged (DetachesNoted text note old new names.heaps.plain heap next)
+    → OnErr judged (StandsStill old new names names heap next) → NotesLeft (left_said judged) note old.context new.context
+left_notes text note old new names heap next (Ok done) gone still = ap (λ (d : ParticipantView). d.context.standing) gone.noted
+left_notes text note old new names heap next (Err fault) gone still =
+    refused_left note fault old.context new.context (ap (λ (d : ParticipantView). d.context.standing) still.doer)
+
+pub ok_any : {T E : Type 0} (result : Result T E) (P : T → Type 0) → ((value : T) → P value) → IfOk result P
+ok_any (Ok value) P all = all value
+ok_any (Err error) P all = tt

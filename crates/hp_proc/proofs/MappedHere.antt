@@ -237,18 +237,17 @@ attaches_noted text addr len old mid new plain heap next only attaches noted =
     }
 
 -- it noted the chunk
-pub notes_chunk : {party : Party} {validators : List (Validator Bool)} {context noted : Context} {mid counted old : ParticipantView}
-    {party' : Party} {validators' : List (Validator Bool)} {first : Context} {items : List OwnChunk} {index at addr len : ℕ}
+pub notes_chunk : {party : Party} {validators : List (Validator Bool)} {context noted : Context} {counted : ParticipantView}
+    (mid old : ParticipantView) (first : Context) {items : List OwnChunk} {index : ℕ} (at addr len : ℕ)
     → participant_of party validators context ≡ counted → counted ≡ after_call mid → noted ≡ with_chunks items context
-    → items ≡ with_own_chunk (record { heap = index; addr = addr; len = len }) first.standing.chunks → participant_of party' validators' first ≡ old
-    → index ≡ at
+    → items ≡ with_own_chunk (record { heap = index; addr = addr; len = len }) first.standing.chunks
+    → first.standing.chunks ≡ old.context.standing.chunks → index ≡ at
     → participant_of party validators noted
     ≡ noting_chunks (with_own_chunk (record { heap = at; addr = addr; len = len }) old.context.standing.chunks) (after_call mid)
-notes_chunk {party} {validators} {context} {noted} {mid} {counted} {old} {party'} {validators'} {first} {items} {index} {at} {addr} {len}
-    view counts notes are was same =
+notes_chunk {party} {validators} {context} {noted} {counted} mid old first {items} {index} at addr len view counts notes are was same =
     let kept : items ≡ with_own_chunk (record { heap = at; addr = addr; len = len }) old.context.standing.chunks =
     are ∙ ap (λ (heap : ℕ). with_own_chunk (record { heap = heap; addr = addr; len = len }) first.standing.chunks) same
-    ∙ ap (λ (d : ParticipantView). with_own_chunk (record { heap = at; addr = addr; len = len }) d.context.standing.chunks) was in
+    ∙ ap (λ (chunks : List OwnChunk). with_own_chunk (record { heap = at; addr = addr; len = len }) chunks) was in
     ap (participant_of party validators) notes ∙ ap (noting_chunks items) (view ∙ counts)
     ∙ ap (λ (chunks : List OwnChunk). noting_chunks chunks (after_call mid)) kept
 
@@ -311,18 +310,18 @@ module _ (old new : ParticipantView) (names : NamesView) (heap : HeapView) (take
   -- its mapper failed
   module _ (chunk : Chunk) (named : IsNamedChunk names.heaps.plain text heap.plain addr len chunk) (unmarked_is : has_bit chunk.attached who ≡ false)
       (number : ℕ) (fault : IsMapFault chunk number old.party.maps new.party.maps) where
-    party_is : new.party ≡ with_maps new.party.maps old.party
-    party_is = ap (λ (d : ParticipantView). d.party) only
+    party_failed : new.party ≡ with_maps new.party.maps old.party
+    party_failed = ap (λ (d : ParticipantView). d.party) only
 
-    context_is : new.context ≡ old.context
-    context_is = ap (λ (d : ParticipantView). d.context) only
+    context_failed : new.context ≡ old.context
+    context_failed = ap (λ (d : ParticipantView). d.context) only
 
-    same : IsSameParty old.party new.party
-    same = record {
-      me = ap (λ (p : Party). p.me) party_is;
-      socket = ap (λ (p : Party). p.socket) party_is;
-      plan = ap (λ (p : Party). p.plan) party_is;
-      deadline = ap (λ (p : Party). p.deadline) party_is;
+    same_failed : IsSameParty old.party new.party
+    same_failed = record {
+      me = ap (λ (p : Party). p.me) party_failed;
+      socket = ap (λ (p : Party). p.socket) party_failed;
+      plan = ap (λ (p : Party). p.plan) party_failed;
+      deadline = ap (λ (p : Party). p.deadline) party_failed;
     }
 
     failed_is : (ended : Caught) → IsFailedCall number ended → is_done ended ≡ false
@@ -350,31 +349,31 @@ module _ (old new : ParticipantView) (names : NamesView) (heap : HeapView) (take
         record {
           may = was.may;
           tied = record {
-            table = subst (λ (b : Bool). IsTied (c.seen who) (c.own who) (marked_with who heap c) b new.party.maps) (sym (ap (λ (p : Party). p.joined) party_is))
+            table = subst (λ (b : Bool). IsTied (c.seen who) (c.own who) (marked_with who heap c) b new.party.maps) (sym (ap (λ (p : Party). p.joined) party_failed))
                 (tied_maps (c.seen who) (c.own who) (marked_with who heap c) old.party.joined old.party.maps new.party.maps fault.rows fault.others was.tied.table);
-            same = was.tied.same ∙ sym (ap (λ (p : Party). p.joined) party_is);
-            left = λ out index. was.tied.left (sym (ap (λ (p : Party). p.joined) party_is) ∙ out) index;
+            same = was.tied.same ∙ sym (ap (λ (p : Party). p.joined) party_failed);
+            left = λ out index. was.tied.left (sym (ap (λ (p : Party). p.joined) party_failed) ∙ out) index;
           };
           chunks = λ index.
-              was.chunks index ∙ ap (λ (k : Context). chunks_of index k.standing.chunks) (sym context_is);
-          in_hand = hand_as old new (c.part who) (c.seen who) (c.heard who) c.taken heap same.me (ap (λ (k : Context). k.calls) context_is)
-              (ap (λ (k : Context). k.pools) context_is) was.in_hand;
+              was.chunks index ∙ ap (λ (k : Context). chunks_of index k.standing.chunks) (sym context_failed);
+          in_hand = hand_as old new (c.part who) (c.seen who) (c.heard who) c.taken heap same_failed.me (ap (λ (k : Context). k.calls) context_failed)
+              (ap (λ (k : Context). k.pools) context_failed) was.in_hand;
           settled = was.settled;
-          attached = was.attached ∙ ap (λ (k : Context). k.standing.attached) (sym context_is);
-          named = was.named ∙ ap (λ (k : Context). sockets_of k.pools) (sym context_is);
+          attached = was.attached ∙ ap (λ (k : Context). k.standing.attached) (sym context_failed);
+          named = was.named ∙ ap (λ (k : Context). sockets_of k.pools) (sym context_failed);
           mapped = was.mapped;
         }
 
     failed_keeps : KeepsMarked who old new names heap heap a c
     failed_keeps = record {
-      holds = holds_given old names heap taken took holds taken.ranges put.back new names heap (sym same.me) refl failed_holds holds.sound holds.goes_on
+      holds = holds_given old names heap taken took holds taken.ranges put.back new names heap (sym same_failed.me) refl failed_holds holds.sound holds.goes_on
           (subst (AreAgreedNames names (renamed here (naming_of heap.plain) holds.agrees.namings)) (sym (ranges_here old names heap taken took holds))
           (still_agreed heap (a.part who) names holds.agrees holds.holds.in_hand.few heap refl))
-          (holds.sockets ∙ ap (λ (k : Context). sockets_of k.pools) (sym context_is));
+          (holds.sockets ∙ ap (λ (k : Context). sockets_of k.pools) (sym context_failed));
       index = refl;
       its_socket = refl;
-      same = same;
-      pools = ap (λ (k : Context). k.pools) context_is;
+      same = same_failed;
+      pools = ap (λ (k : Context). k.pools) context_failed;
       slots = (traded who taken taken.ranges took put.back).slots;
       others = (traded who taken taken.ranges took put.back).others;
     }
@@ -400,8 +399,8 @@ module _ (old new : ParticipantView) (names : NamesView) (heap : HeapView) (take
               (takes_segments taken ∷ (gives_segments taken ∷ [])) (fault.ended, refl, sym (failed_ends fault.ended fault.failed))
               (traded_did who taken taken.ranges took put.back) failed_acts
               (λ index. (parts_alike who taken taken.ranges took put.back index).entries)
-              (λ index. (parts_alike who taken taken.ranges took put.back index).serves) same (ap (λ (p : Party). p.asked) party_is)
-              seen.0 seen.1 heard.0 heard.1 refl (context_still old.context new.context context_is);
+              (λ index. (parts_alike who taken taken.ranges took put.back index).serves) same_failed (ap (λ (p : Party). p.asked) party_failed)
+              seen.0 seen.1 heard.0 heard.1 refl (context_still old.context new.context context_failed);
           names = record { changed = refl; unread = refl; untold = (tt, tt) };
         }
 

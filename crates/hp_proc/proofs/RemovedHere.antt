@@ -50,7 +50,6 @@ use Rattle.hp_proc.specs.HeldMarks.{HoldsMarked}
 use Rattle.hp_proc.specs.LineInHall.{IsAsTaken}
 use Rattle.hp_proc.specs.MarksInHand.{HoldsNamedMarked, KeepsMarked}
 use Rattle.hp_proc.specs.NamesInHand.{DoesNamedHeld, entries_in}
-use Rattle.hp_proc.specs.Outcomes.{above}
 use Rattle.hp_proc.specs.ParticipantView.{ParticipantView, after_call}
 use Rattle.hp_proc.specs.Progress.{caller_of}
 use Rattle.hp_proc.specs.SharedNames.NamesChange.{OfHeaps}
@@ -138,7 +137,7 @@ module _ (old : ParticipantView) (names given : NamesView) (heap next : HeapView
 
       some_held : (h : HeapView) (holding : Option Holding) → IsHeldWith h holding → IsSome holding
       some_held h None held = absurd held
-      some_held h (Some holding) held = tt
+      some_held h (Some holding) held = refl
 
   claimed_chunk : Contains taken.ranges (chunk_memory chunk)
   claimed_chunk = claimed_here old names heap taken took holds chunk among

@@ -42,7 +42,7 @@ count_both {X} p q (x ∷ xs) =
   where
     by_first : (b : Bool) → cond {A = ℕ} (b && q x) 1 0 + count_by q (filter p xs) ≡ count_by q (cond b (x ∷ filter p xs) (filter p xs))
     by_first true = sym (count_by-cons q x (filter p xs))
-    by_first false = refl
+    by_first false = omega arith
 
 its_chunks : (addr len page : ℕ) (h : PlainHeap) → count_by (is_memory addr len page) (naming_of h).chunks ≡ count_by (is_memory addr len page) h.chunks
 unfolding naming_of

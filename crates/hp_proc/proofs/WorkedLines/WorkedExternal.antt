@@ -38,7 +38,7 @@ use Rattle.hp_proc.specs.LineTrees.{doing_of}
 use Rattle.hp_proc.specs.Lines.{Facts}
 use Rattle.hp_proc.specs.ClaimedMemory.{claims_in, plan_in}
 use Rattle.hp_proc.specs.Doing.{Doing, Goes, Leads}
-use Rattle.hp_proc.specs.Doing.Done.{Called, ChunkMapped, HeapSeen, NamesChanged, NamesRead}
+use Rattle.hp_proc.specs.Doing.Done.{Called, ChunkMapped, HeapSeen, NamesChanged, NamesRead, RangePlanned}
 use Rattle.hp_proc.specs.ExternalLines as external
 use Rattle.hp_proc.specs.ExternalLines.{adding}
 use Rattle.hp_proc.specs.declared.own_chunk.OwnChunk.{OwnChunk}
@@ -184,10 +184,10 @@ abbrev pub adds : ℕ → Act
 adds bytes = act.Add (part ext) base bytes (2 ^ 21)
 
 memory_comes : Leads (doing_of (line_of 0 (adds len)) (adds len) (facts []))
-    (NamesRead named ∷ NamesChanged (OfHeaps (Range 1 base len (2 ^ 21))) ∷ Called 1 (call.Chunk (chunk 0)) gives.Done ∷ [])
-    (Doing.Ended answer.Done)
+    (NamesRead named ∷ RangePlanned base len (2 ^ 21) (plan_in pools named base len (2 ^ 21))
+    ∷ NamesChanged (OfHeaps (Range 1 base len (2 ^ 21))) ∷ Called 1 (call.Chunk (chunk 0)) gives.Done ∷ []) (Doing.Ended answer.Done)
 unfolding Goes Leads doing_of directory.socket_name heaps_in
-memory_comes = (named, refl, memory_planned)
+memory_comes = (named, refl, (plan_in pools named base len (2 ^ 21), refl, memory_planned))
 
 -- the history of the heap, by participant 0 but for what another one attaches
 abbrev pub entry : ℕ → ℕ → HeapCall → HeapAnswer → Entry

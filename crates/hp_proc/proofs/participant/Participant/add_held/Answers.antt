@@ -3,6 +3,7 @@ use Rattle.std.proofs.Common.{Contains, Err, IfOk, OnErr, ap, subst, sym, ℕ}
 use Rattle.hp_base.specs.declared.chunk.Chunk.{Chunk}
 use Rattle.hp_base.specs.declared.limits.TheConstants.{MAX_HEAPS}
 use Rattle.hp_base.specs.declared.tag.Caller.{Caller}
+use Rattle.hp_external.specs.Adding.{Adds}
 use Rattle.hp_external.specs.Tie.{claim_of}
 use Rattle.hp_hall.specs.Giving.{IsGiveOf}
 use Rattle.hp_hall.specs.HallState.{known_to}
@@ -18,7 +19,6 @@ use Rattle.hp_proc.specs.ExternalLines.{planning}
 use Rattle.hp_proc.specs.MarksInHand.{KeepsMarked}
 use Rattle.hp_proc.specs.NamesInHand.{DoesNamedHeld, HaltsNamedHeld}
 use Rattle.hp_proc.specs.ParticipantView.{ParticipantView}
-use Rattle.hp_script.proofs.StepLemmas.{Adds}
 use Rattle.hp_script.specs.declared.answer.Answer.TheVariants as answer
 use Rattle.hp_segs.specs.SegsView.{SegsView}
 use Rattle.hp_serve.proofs.SegmentSlots.{took_has, took_serves}

@@ -20,11 +20,8 @@ hold-requires-clause-ready g c = c.requires.ready.but
 pub hold-requires-clause-beside : goal.hold-requires-clause-beside
 hold-requires-clause-beside g c = inr c.requires.ready.told
 
-pub do_held-requires-clause-attached : goal.do_held-requires-clause-attached
-do_held-requires-clause-attached g c = ap (λ (context : Context). context.standing.attached) c.hold.ensures.context ∙ c.requires.attached
-
-pub do_held-requires-clause-holds : goal.do_held-requires-clause-holds
-do_held-requires-clause-holds g c =
+pub do_held-given-requires-clause-holds : goal.do_held-given-requires-clause-holds
+do_held-given-requires-clause-holds g c =
     let doer = c.args.self.now in
     let me = doer.party.me in
     let mid = c.hold.new.self in
@@ -40,12 +37,8 @@ do_held-requires-clause-holds g c =
     let holds = holds_there doer mid names heap c.requires.ready hold.same hold.context hold.slots.names hand.holds hand.as_taken took.agreed did in
     subst (λ (who : ℕ). HoldsNamedMarked who mid names heap at) (sym hold.same.me) holds
 
-pub do_held-requires-clause-meant : goal.do_held-requires-clause-meant
-do_held-requires-clause-meant g c =
-    subst (IsIndexMeant c.args.act.now c.args.names.now.heaps.plain) (sym c.in_ok-heap.ensures.hand.index) c.requires.meant
-
-pub do_held-requires-clause-serves : goal.do_held-requires-clause-serves
-do_held-requires-clause-serves g c =
+pub do_held-given-requires-clause-serves : goal.do_held-given-requires-clause-serves
+do_held-given-requires-clause-serves g c =
     let doer = c.args.self.now in
     let me = doer.party.me in
     let mid = c.hold.new.self in
@@ -66,10 +59,10 @@ do_held-requires-clause-serves g c =
 
 pub put-requires : goal.put-requires
 put-requires g c =
-    let between = g.H.Hall.state c.do_held.new.hall in
-    let new = c.do_held.new.self in
-    let next = c.do_held.new.heap in
-    let keeps = c.do_held.ensures.keeps in
+    let between = g.H.Hall.state c.do_held-given.new.hall in
+    let new = c.do_held-given.new.self in
+    let next = c.do_held-given.new.heap in
+    let keeps = c.do_held-given.ensures.keeps in
     let own = keeps.same.me in
     let pen = c.in_ok-heap.ensures.hand.taken_with in
     record {
@@ -102,12 +95,12 @@ returns g c =
     let sockets = c.requires.ready.sockets in
     let none = external_at me doer.context.pools names c.requires.ready.sound.1 sockets c.args.act.now heap.plain.index c.requires.external meant in
     let serves = serves_none mid names heap me at holds none in
-    let between = g.H.Hall.state c.do_held.new.hall in
+    let between = g.H.Hall.state c.do_held-given.new.hall in
     let to = g.H.Hall.state c.put.new.hall in
-    let new = c.do_held.new.self in
-    let next = c.do_held.new.heap in
-    let given = c.do_held.new.names in
-    let keeps = c.do_held.ensures.keeps in
+    let new = c.do_held-given.new.self in
+    let next = c.do_held-given.new.heap in
+    let given = c.do_held-given.new.names in
+    let keeps = c.do_held-given.ensures.keeps in
     let put = c.put.ensures in
     let own : new.party.me ≡ me = keeps.same.me ∙ hold.same.me in
     let shared = shared_of names in
@@ -121,27 +114,27 @@ returns g c =
     (subst (λ (who : ℕ). Notices heap.plain tree (doing_held who mid.context.pools c.args.act.now shared heap.plain)) (sym hold.same.me)
     (subst (λ (context : Context). Notices heap.plain tree (doing_held me context.pools c.args.act.now shared heap.plain)) (sym hold.context) notice)) in
     let many = (g.met.H.Hall.goes_on_later _ _ hold.goes_on).count in
-    let more = (g.met.H.Hall.goes_on_later _ _ c.do_held.ensures.goes_on).count in
+    let more = (g.met.H.Hall.goes_on_later _ _ c.do_held-given.ensures.goes_on).count in
     record {
-      does = if_ok _ _ c.do_held.result
+      does = if_ok _ _ c.do_held-given.result
           (λ said was.
           subst (λ (index : ℕ). DoesNamed (index ∷ []) me doer new names given from to tree (Doing.Ended said)) hand.index
           (there_does heap.plain.index doer mid new names given heap next tree held takes hold.same.me own many (more ∙ many) put.does (Doing.Ended said)
-          was)) c.do_held.ensures.does;
-      halts = on_err_map c.do_held.result
+          was)) c.do_held-given.ensures.does;
+      halts = on_err_map c.do_held-given.result
           (λ was.
           subst (λ (index : ℕ). HaltsNamed (index ∷ []) me doer new names given from to tree) hand.index
           (there_halts heap.plain.index doer mid new names given heap next tree held takes hold.same.me own many (more ∙ many) put.does was))
-          c.do_held.ensures.halts;
+          c.do_held-given.ensures.halts;
       ready = subst (λ (who : ℕ). IsReadyNamed who new given to) own
           (ready_there me c.args.index new given next hold.slots (subst (λ (who : ℕ). HoldsNamedMarked who new given next between) (sym keeps.same.me) keeps.holds)
           (keeps.index ∙ hand.index) keeps.slots put.does put.ready put.marks put.tied put.table put.agreed put.free put.slots put.others);
-      noted = if_ok _ _ c.do_held.result
+      noted = if_ok _ _ c.do_held-given.result
           (λ said was.
           subst (λ (index : ℕ). NotesAct c.args.act.now index said doer.context new.context) hand.index
-          (subst (λ (context : Context). NotesAct c.args.act.now heap.plain.index said context new.context) hold.context was)) c.do_held.ensures.noted;
+          (subst (λ (context : Context). NotesAct c.args.act.now heap.plain.index said context new.context) hold.context was)) c.do_held-given.ensures.noted;
       clock = λ one. omega (arith, hold.clock one, keeps.others.clock, put.others.clock);
-      goes_on = g.met.H.Hall.goes_on_then _ _ _ hold.goes_on (g.met.H.Hall.goes_on_then _ _ _ c.do_held.ensures.goes_on put.goes_on);
+      goes_on = g.met.H.Hall.goes_on_then _ _ _ hold.goes_on (g.met.H.Hall.goes_on_then _ _ _ c.do_held-given.ensures.goes_on put.goes_on);
     }
 
 -- IT STOPPED BEFORE THAT

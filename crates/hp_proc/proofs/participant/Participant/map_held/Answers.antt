@@ -69,7 +69,9 @@ returns-in-Ok-clause-does g c =
     let took = took_by c.number-me.ensures c.requires.holds.holds.may is.took is.slots is.others is.measure in
     let put = subst (λ (who : ℕ). PutsBack who c.take_segments-segs.result (g.H.Hall.state c.take_segments-segs.new.hall)
     (g.H.Hall.state c.put_back.new.hall)) c.number-me.ensures c.put_back.ensures.back in
-    let noted = notes_chunk c.self-in-Ok.view_is c.count_call.ensures c.note_chunks.ensures c.in_ok-chunks.ensures.are c.self.view_is c.index.ensures in
+    let noted = notes_chunk c.attach_in.new.self doer c.self.inside.context c.args.heap.now.plain.index c.args.addr c.args.len c.self-in-Ok.view_is
+    c.count_call.ensures c.note_chunks.ensures c.in_ok-chunks.ensures.are (ap (λ (d : ParticipantView). d.context.standing.chunks) c.self.view_is)
+    c.index.ensures in
     mapped_does doer _ c.args.names.now c.args.heap.now c.attach_in.new.heap c.take_segments-segs.result c.args.text.now c.args.addr c.args.len took
     c.requires.holds (subst AreInOrder c.chunks.ensures.chunks c.chunks.ensures.order) put c.requires.attached
     (attaches_noted c.args.text.now c.args.addr c.args.len doer c.attach_in.new.self _ c.args.names.now.heaps.plain c.args.heap.now c.attach_in.new.heap
@@ -82,7 +84,9 @@ returns-in-Ok-clause-keeps g c =
     let took = took_by c.number-me.ensures c.requires.holds.holds.may is.took is.slots is.others is.measure in
     let put = subst (λ (who : ℕ). PutsBack who c.take_segments-segs.result (g.H.Hall.state c.take_segments-segs.new.hall)
     (g.H.Hall.state c.put_back.new.hall)) c.number-me.ensures c.put_back.ensures.back in
-    let noted = notes_chunk c.self-in-Ok.view_is c.count_call.ensures c.note_chunks.ensures c.in_ok-chunks.ensures.are c.self.view_is c.index.ensures in
+    let noted = notes_chunk c.attach_in.new.self doer c.self.inside.context c.args.heap.now.plain.index c.args.addr c.args.len c.self-in-Ok.view_is
+    c.count_call.ensures c.note_chunks.ensures c.in_ok-chunks.ensures.are (ap (λ (d : ParticipantView). d.context.standing.chunks) c.self.view_is)
+    c.index.ensures in
     mapped_keeps doer _ c.args.names.now c.args.heap.now c.attach_in.new.heap c.take_segments-segs.result c.args.text.now c.args.addr c.args.len took
     c.requires.holds (subst AreInOrder c.chunks.ensures.chunks c.chunks.ensures.order) put c.requires.attached
     (attaches_noted c.args.text.now c.args.addr c.args.len doer c.attach_in.new.self _ c.args.names.now.heaps.plain c.args.heap.now c.attach_in.new.heap
@@ -91,7 +95,9 @@ returns-in-Ok-clause-keeps g c =
 pub returns-in-Ok-clause-noted : goal.returns-in-Ok-clause-noted
 returns-in-Ok-clause-noted g c =
     let doer = c.args.self.now in
-    let noted = notes_chunk c.self-in-Ok.view_is c.count_call.ensures c.note_chunks.ensures c.in_ok-chunks.ensures.are c.self.view_is c.index.ensures in
+    let noted = notes_chunk c.attach_in.new.self doer c.self.inside.context c.args.heap.now.plain.index c.args.addr c.args.len c.self-in-Ok.view_is
+    c.count_call.ensures c.note_chunks.ensures c.in_ok-chunks.ensures.are (ap (λ (d : ParticipantView). d.context.standing.chunks) c.self.view_is)
+    c.index.ensures in
     noted_mapped (record { heap = c.args.heap.now.plain.index; addr = c.args.addr; len = c.args.len }) doer c.attach_in.new.self _
     c.attach_in.new.self.party.maps c.attach_in.ensures.only noted
 
