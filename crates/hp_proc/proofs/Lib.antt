@@ -93,3 +93,5 @@ mod ZoneHeld
 mod ZoneTrees
 mod LinesNamed
 mod ZoneLooked
+mod ZonePlaces
+mod ZoneDone
