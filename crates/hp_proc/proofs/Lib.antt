@@ -1,3 +1,4 @@
+mod AddedHere
 pub mod AddressLies
 mod AgreedLater
 pub mod AllocAgrees
@@ -8,9 +9,8 @@ pub mod AwaitedLines
 pub mod HandFacts
 pub mod ChangedLines
 pub mod ChosenHeaps
-pub mod ChunkLies
-mod AddedHere
 mod ChunkCame
+pub mod ChunkLies
 mod ChunksLeft
 pub mod Continued
 mod ExternalMeant

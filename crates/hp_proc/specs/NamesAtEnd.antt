@@ -9,9 +9,9 @@ use Rattle.hp_base.specs.declared.limits.TheConstants.{MAX_HEAPS}
 use Rattle.hp_base.specs.declared.pool_line.PoolLine.{PoolLine}
 use Rattle.hp_external.specs.Tie.{AreClaimed, AreListed, claim_of}
 use Rattle.hp_hall.specs.Named.{IsAllocated}
-use Rattle.hp_heap.specs.History.{HeapView}
+use Rattle.hp_heap.specs.History.{HeapView, replay}
 use Rattle.hp_heap.specs.Joining.{zone_ranges}
-use Rattle.hp_heap.specs.PlainHeap.{PlainHeap, data_address}
+use Rattle.hp_heap.specs.PlainHeap.{PlainHeap, data_address, opening_heap}
 use Rattle.hp_heap.specs.declared.entry.Entry.{Entry}
 use Rattle.hp_script.specs.declared.workload.Workload.{Workload}
 use Rattle.hp_segs.specs.declared.external_range.ExternalRange.{ExternalRange}
@@ -23,7 +23,7 @@ use Rattle.hp_proc.specs.Awaits.{calls_within}
 use Rattle.hp_proc.specs.Courses.{OwnCall, calls_in}
 use Rattle.hp_proc.specs.Doing.{Done}
 use Rattle.hp_proc.specs.Doing.Done.{HeapSeen, NamesRead}
-use Rattle.hp_proc.specs.ExternalLines.{external_heap}
+use Rattle.hp_proc.specs.Heaps.{sockets_of}
 use Rattle.hp_proc.specs.Histories.{entry_for}
 use Rattle.hp_proc.specs.LinesDone.{Course, courses_of}
 use Rattle.hp_proc.specs.SharedNames.{SharedNames, directory_in, zones_in}
@@ -49,21 +49,26 @@ chunks_at heaps index = option_map_or (λ heap. heap.plain.chunks) (slice_get he
 abbrev pub AreClaimsOf : List HeapView → List ExternalRange → Type 0
 AreClaimsOf heaps claims = IsPermutation (flat_map (λ index. map claim_of (chunks_at heaps index)) (range_with_len 0 MAX_HEAPS)) claims
 
+-- the heap of an index, as its history leaves it
+abbrev pub heap_by : List PoolLine → ℕ → List Entry → PlainHeap
+heap_by pools index history = replay (opening_heap index (slice_get (sockets_of pools) index)) history
+
 -- the directory says so of a heap with this index and this history: how it is called, and which chunks it has
 pub record SaysOf (pools : List PoolLine) (names : SharedNames) (index : ℕ) (history : List Entry) : Type 0 where
-  pub called : heap_at (directory_in pools names) index ≡ called (external_heap index history)
-  pub listed : AreListed (directory_in pools names).ranges (external_heap index history)
+  pub called : heap_at (directory_in pools names) index ≡ called (heap_by pools index history)
+  pub listed : AreListed (directory_in pools names).ranges (heap_by pools index history)
 
 -- a line that is handed the names and then a heap has both in one hold, so that they agree
 abbrev pub AreHandedTogether : List PoolLine → Course → Type 0
 AreHandedTogether pools course = (names : SharedNames) (index : ℕ) (history : List Entry) (rest : List Done)
     → course.trace ≡ NamesRead names ∷ (HeapSeen index history ∷ rest) → SaysOf pools names index history
 
--- and the call that it then makes of a heap stands directly after the state that it was handed
+-- and the one call that it makes then, of that heap, stands directly after the state that it was handed
 abbrev pub StandsNext : List HeapView → List Course → Type 0
 StandsNext heaps courses = (who place : ℕ) (course : Course) (names : SharedNames) (index : ℕ) (history : List Entry) (rest : List Done)
     (own : OwnCall) (heap : HeapView) → slice_get (courses_of who courses) place ≡ Some course
-    → course.trace ≡ NamesRead names ∷ (HeapSeen index history ∷ rest) → calls_in rest ≡ own ∷ [] → slice_get heaps index ≡ Some heap
+    → course.trace ≡ NamesRead names ∷ (HeapSeen index history ∷ rest) → calls_in rest ≡ own ∷ [] → own.heap ≡ index
+    → slice_get heaps index ≡ Some heap
     → slice_get heap.history (length history) ≡ Some (entry_for who (calls_within who place courses + 1) own)
 
 -- a memzone was reserved: an allocation was answered its address, by an entry of its heap's history

@@ -84,10 +84,3 @@ pub record AreChangesOf (workload : Workload) (did : ℕ → List Done) (names :
   pub made : IsPermutation (changes_made workload.participants did) (changes_in names)
   pub sockets : (front : ℕ) → HasSocketHeaps (sockets_of workload.pools.items)
       (directory_at (sockets_of workload.pools.items) names.heaps front)
-
--- each change could come after those before it, so that a socket number is given once
-pub record ComeInOrder (workload : Workload) (names : SharedNames) : Type 0 where
-  pub heaps : (place : ℕ) (change : NameChange) → slice_get names.heaps place ≡ Some change
-      → MayCome (directory_at (sockets_of workload.pools.items) names.heaps place) change
-  pub zones : (place : ℕ) (change : ZoneChange) → slice_get names.zones place ≡ Some change
-      → MayComeTo (memzones.zones_at names.zones place) change

@@ -21,7 +21,7 @@ use Rattle.hp_proc.specs.Ends.{history_by, none_made}
 use Rattle.hp_proc.specs.Heaps.{sockets_of}
 use Rattle.hp_proc.specs.LinesDone.{Course, courses_of, opening_standing, standing_after, trace_of}
 use Rattle.hp_proc.specs.NamesAtEnd.{AreHandedTogether, StandsNext}
-use Rattle.hp_proc.specs.NamesLog.{ComeInOrder, change_made}
+use Rattle.hp_proc.specs.NamesLog.{change_made}
 use Rattle.hp_serve.specs.Denials.{AnswersSo}
 use Rattle.hp_proc.specs.SharedNames.{SharedNames, names_with, no_changes}
 
@@ -81,11 +81,9 @@ WasDenied workload segs so_far who (Asked asked None) = (entry : AskLog) (name :
 WasDenied workload segs so_far who _ = ⊤
 
 -- a line that is done after others is handed exactly what these leave, of the names, of an external heap and of statistics; names and a heap's
--- state that it is handed agree, and its call of the heap stands next; and all lines leave the names, whose changes could each come after those
--- before them
+-- state that it is handed agree, and its call of the heap stands next; and all lines leave the names
 pub record AreHandedInOrder (workload : Workload) (courses : List Course) (names : SharedNames) (heaps : List HeapView) : Type 0 where
   pub handed : (so_far : List Course) (who : ℕ) (done : Done) → IsMoment courses so_far who done → IsLeftBy workload so_far done
   pub together : All (AreHandedTogether workload.pools.items) courses
   pub next : StandsNext heaps courses
   pub leave : names ≡ names_by courses
-  pub come : ComeInOrder workload names

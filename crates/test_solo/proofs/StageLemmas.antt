@@ -28,9 +28,7 @@ use Rattle.hp_proc.specs.ParticipantView.{ParticipantView}
 use Rattle.hp_proc.specs.declared.own_chunk.OwnChunk.{OwnChunk}
 use Rattle.hp_solo.specs.Solo.{IsPartyServed, IsTiedAt, IsTiedFor, marked_at}
 use Rattle.hp_solo.specs.SoloAsks.{IsOpening}
-use Rattle.hp_plain.specs.Course.{course_seen}
-use Rattle.hp_serve.proofs.Handed.{tied_still}
-use Rattle.hp_solo.proofs.SoloTies.{tied_on}
+use Rattle.hp_solo.proofs.SoloTies.{tied_marked, tied_on}
 
 -- what holds of the stage: the segment value is there, and each participant's table is tied to what the hall knows of it
 abbrev pub IsStaged : HallView → Party → Party → Type 0
@@ -89,22 +87,6 @@ staged_new hall primary secondary opening unmarked first second in_first in_seco
   opened_tied hall 0 primary (opening.nothing_yet 0) (opening.joined 0 (omega arith) ∙ sym in_first) first (unmarked 0) tied_first,
   opened_tied hall 1 secondary (opening.nothing_yet 1) (opening.joined 1 (omega arith) ∙ sym in_second) second (unmarked 1) tied_second,
 )
-
--- who is tied stays so along the course of the hall where its own part stays, its marks, and whether it is in the roster
-tied_marked : (old new : HallView) (who : ℕ) (party : Party) → IsCourse old new → own_at new who ≡ own_at old who
-    → joined_in new who ≡ joined_in old who → ((heap : ℕ) → marked_at new who heap ≡ marked_at old who heap) → IsTiedAt old who party
-    → IsTiedAt new who party
-tied_marked old new who party course own joined marks at =
-    let seen = course_seen old new course in
-    record {
-      number = at.number;
-      tied = record {
-        table = tied_still (seen_in old) (seen_in new) seen.0 (own_at old who) (own_at new who) (marked_at old who) (marked_at new who) party.joined
-            party.maps seen.1 own marks at.tied.table;
-        same = joined ∙ at.tied.same;
-        left = λ out heap. marks heap ∙ at.tied.left out heap;
-      };
-    }
 
 -- later on, where the own parts and the roster are as they were
 pub staged_to : (old new : HallView) (primary secondary : Party) → IsCourse old new → IsHome (slot_at new MAX_HEAPS)

@@ -4,9 +4,10 @@ use Rattle.std.specs.Prelude.{Contains, slice_get}
 use Rattle.std.proofs.lemmas.Bool.{eqb-true}
 use Rattle.std.proofs.lemmas.List.Elements.{All-contains}
 use Rattle.std.proofs.lemmas.Option.{same_Some, slice_get_within}
+use Rattle.hp_base.specs.declared.chunk.Chunk.{Chunk}
 use Rattle.hp_base.specs.declared.limits.TheConstants.{MAX_HEAPS}
 use Rattle.hp_base.specs.declared.row.Row.{Row}
-use Rattle.hp_plain.specs.HallView.{HallView, SlotView, log_in, own_at, seen_in, segs_in, slot_at}
+use Rattle.hp_plain.specs.HallView.{HallView, SlotView, log_in, own_at, part_in, seen_in, segs_in, slot_at}
 use Rattle.hp_plain.specs.Keeping.{AreAgreed}
 use Rattle.hp_hall.specs.Own.{Own}
 use Rattle.hp_hall.specs.Values.{log_of}
@@ -107,11 +108,14 @@ module _ (workload : Workload) (courses : List Course) (parties : List Party) (h
         let same : its.0.party ≡ party = same_Some its.0.party party (sym (so.seats who its.0 its.1).party ∙ at) in
         so.roster who its.0 its.1 ∙ ap (λ (party : Party). party.joined) same ∙ joined
 
+    abbrev marked : ℕ → List Chunk
+    marked heap = (part_in hall who heap).marked
+
     -- its table is what the hall knows of it
-    its_own : HasTable segs.log own party.maps
+    its_own : HasTable segs.log own marked party.maps
     its_own =
-        subst (λ (log : List LogRecord). HasTable log own party.maps) (log_at (slot_at hall MAX_HEAPS) segs so.its_segs)
-        (subst (λ (joined : Bool). HasTable (seen_in hall) (part_of joined own) party.maps) joined (so.each who party at).tied.table)
+        subst (λ (log : List LogRecord). HasTable log own marked party.maps) (log_at (slot_at hall MAX_HEAPS) segs so.its_segs)
+        (subst (λ (joined : Bool). HasTable (seen_in hall) (part_of joined own) marked party.maps) joined (so.each who party at).tied.table)
 
     -- it has taken in the record of each segment in use
     has_taken_in : (segment : Segment) → Contains segs.segments segment → IsInUse segment → segment.row.generation ≤ own.number
@@ -124,7 +128,7 @@ module _ (workload : Workload) (courses : List Course) (parties : List Party) (h
     has_mapped : (segment : Segment) → Contains segs.segments segment → IsInUse segment → HasSegment party.maps.rows segment
     has_mapped segment among in_use =
         contains_unkept is_of_log party.maps.rows segment.row
-        (in_lagging segs.log own.number own.unmapped (table_in party.maps.rows) segment.row (has_lags segs.log own party.maps its_own)
+        (in_lagging segs.log own.number own.unmapped (table_in party.maps.rows) segment.row (has_lags segs.log own marked party.maps its_own)
         (has_taken_in segment among in_use) (in_use_logged segs segment sound_now among))
 
     has_all : HasAllInUse segs party

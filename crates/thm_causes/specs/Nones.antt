@@ -18,7 +18,7 @@ use Rattle.hp_segs.specs.declared.outcome.Cause.TheVariants.{CannotHold, Denied,
 use Rattle.hp_segs.specs.declared.outcome.Outcome.TheVariants.{Refused}
 use Rattle.hp_proc.specs.Courses.{Allocates}
 use Rattle.hp_proc.specs.Doing.{Done}
-use Rattle.hp_proc.specs.Doing.Done.{Asked, Called}
+use Rattle.hp_proc.specs.Doing.Done.{Asked, Called, NamesRead}
 use Rattle.hp_proc.specs.Ends.{IsEnd}
 use Rattle.hp_proc.specs.LinesDone.{Course, courses_of}
 use Rattle.thm_run.specs.EndLaws.{IsFailedMapping}
@@ -29,10 +29,11 @@ use Rattle.thm_causes.specs.Threads.{TimeoutsArePlanned}
 abbrev pub IsNoAddress : HeapAnswer → Type 0
 IsNoAddress found = (address : ℕ) → found ≡ gives.Address address → ⊥
 
--- what was done came to nothing: a heap had no choice for an allocation, or an ask was granted nothing
+-- what was done came to nothing: the names were read, a heap had no choice for an allocation, or an ask was granted nothing
 abbrev pub CameToNothing : Done → Type 0
 CameToNothing (Called heap (call.Alloc request tag) found) = IsNoAddress found
 CameToNothing (Asked asked run) = run ≡ None
+CameToNothing (NamesRead names) = ⊤
 CameToNothing _ = ⊥
 
 -- a line that allocates, an element or a memzone, and is answered that there is no memory did nothing that came to anything

@@ -1,7 +1,7 @@
 -- What is done of a line without one heap: no step touches that, and no call is of it.
-use Rattle.std.proofs.Common.{◌≡◌, ◌≢◌, ◌∙◌, ℕ, ◌+◌, cond, eq-eqb, ne_eqb, List, [], ◌∷◌, ◌++◌, length, Option, Some, None, ⊎_elim, refl, ap, sym, subst, arith}
-use Rattle.std.specs.Prelude.{⊤, ◌==◌, count_by}
-use Rattle.std.proofs.lemmas.Bool.{cases_eq, cond-false, cond-true}
+use Rattle.std.proofs.Common.{◌≡◌, ◌≢◌, ◌∙◌, ℕ, ◌+◌, cond, eq-eqb, ne_eqb, List, [], ◌∷◌, ◌++◌, length, Option, Some, None, refl, ap, sym, arith}
+use Rattle.std.specs.Prelude.{◌==◌, count_by}
+use Rattle.std.proofs.lemmas.Bool.{cond-false, cond-true}
 use Rattle.std.proofs.lemmas.Option.{same_Some}
 use Rattle.hp_hall.specs.Mail.{Gives, MailStep}
 use Rattle.hp_hall.specs.declared.kept.Kept.TheVariants.{Names}

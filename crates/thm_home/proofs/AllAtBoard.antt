@@ -39,6 +39,7 @@ use Rattle.thm_moved.proofs.NamesAtBoard.{names_changed_at_board, names_handed_a
 use Rattle.thm_moved.proofs.NamesLeftAtBoard.{names_left_at_board}
 use Rattle.thm_moved.specs.AtBoard.{AllCameToTheirSeats, CameToItsSeat}
 use Rattle.thm_moved.specs.NamesLeft.{AreLeftSo}
+use Rattle.thm_home.proofs.AwaitedForAtBoard.{HaveAwaitedFor, awaited_for_at_board}
 use Rattle.thm_home.proofs.StatesAtBoard.{states_at_board}
 use Rattle.thm_home.proofs.ThreadsHome.{came_to_it, on}
 use Rattle.thm_home.proofs.ThreadsMail.{index_there, posted_at}
@@ -358,3 +359,16 @@ states_of_threads workload firsts answers heaps segs names tables watchers given
     let so = home_at_board workload answers heaps segs tables at in
     subst (λ (courses : ℕ → List Course). All (AreStatesHanded who (trace_of (courses who))) heaps) (sym so.courses_are)
     (states_at_board workload answers heaps segs tables at who)
+
+-- and what was handed after lines that await others
+pub awaited_of_threads : (workload : Workload) (firsts : List ParticipantView) (answers : List Answer) (heaps : List HeapView)
+    (segs : SegsView) (names : NamesView) (tables : List Table) (watchers : List WatchersView) (given : IsGiven workload)
+    (declared : AreDeclared workload.participants workload.lines.items)
+    (leave : ThreadsLeave workload firsts answers heaps segs names tables watchers)
+    → HaveAwaitedFor (home_of_threads workload firsts answers heaps segs names tables watchers given declared leave).home.courses heaps
+unfolding home_of_threads all
+awaited_of_threads workload firsts answers heaps segs names tables watchers given declared leave =
+    let at = all workload firsts answers heaps segs names tables watchers given declared leave in
+    let so = home_at_board workload answers heaps segs tables at in
+    subst (λ (courses : ℕ → List Course). HaveAwaitedFor courses heaps) (sym so.courses_are)
+    (awaited_for_at_board workload answers heaps segs tables at)

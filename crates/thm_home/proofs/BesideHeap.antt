@@ -1,6 +1,6 @@
 -- What comes to one heap by a participant's steps, and steps that leave it alone.
-use Rattle.std.proofs.Common.{◌≡◌, ◌≢◌, ◌∙◌, ℕ, ◌+◌, Bool, true, false, cond, eq-eqb, ne_eqb, List, [], ◌∷◌, ◌++◌, append-nil, append_assoc, flat_map, length, Option, Some, None, if◌then◌else◌, ⊎_elim, refl, ap, sym, subst, arith}
-use Rattle.std.specs.Prelude.{⊤, ◌==◌, count_by}
+use Rattle.std.proofs.Common.{◌≡◌, ◌≢◌, ◌∙◌, ℕ, ◌+◌, Bool, true, false, cond, eq-eqb, ne_eqb, List, [], ◌∷◌, ◌++◌, append_assoc, flat_map, length, Option, Some, None, if◌then◌else◌, ⊎_elim, refl, ap, sym}
+use Rattle.std.specs.Prelude.{⊤, ◌==◌}
 use Rattle.std.specs.List.{AllByRecursion}
 use Rattle.std.proofs.lemmas.Bool.{cases_eq, cond-false, cond-true}
 use Rattle.std.proofs.lemmas.Grind.{flat_map-append}
@@ -8,16 +8,11 @@ use Rattle.std.proofs.lemmas.Option.{same_Some}
 use Rattle.hp_hall.specs.Mail.{Fetches, Gives, MailStep, Notes, Posts, Takes}
 use Rattle.hp_hall.specs.declared.kept.Kept.TheVariants.{Heap, Names, Segments}
 use Rattle.hp_hall.specs.declared.slot.TheConstants.{NAMES_SLOT}
-use Rattle.hp_heap.proofs.HistoryFacts.Counting.{count_by-append, count_by-cons}
 use Rattle.hp_heap.specs.History.{HeapView}
 use Rattle.hp_heap.specs.declared.entry.Entry.{Entry}
-use Rattle.hp_proc.proofs.Joining.{calls_on}
-use Rattle.hp_proc.proofs.LawLemmas.{entries_go_on}
 use Rattle.hp_proc.specs.Acting.{Acts}
-use Rattle.hp_proc.specs.Courses.{calls_in}
 use Rattle.hp_proc.specs.Denying.{denials_of}
 use Rattle.hp_proc.specs.Doing.{Done}
-use Rattle.hp_proc.specs.Histories.{entries_for}
 use Rattle.hp_proc.specs.ParticipantView.{ParticipantView}
 use Rattle.hp_serve.specs.Attaching.{after_attaching}
 use Rattle.hp_serve.specs.Serving.{acks_after, gives_segments, takes_segments}

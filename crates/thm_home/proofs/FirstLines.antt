@@ -1,20 +1,16 @@
 -- By the steps of its thread a participant told only of lines that it had done, and at each await it looked up that the others' lines were done; and by
 -- then each heap had the calls of its lines so far.
-use Rattle.std.proofs.Common.{◌≡◌, ◌≢◌, ◌⊎◌, ◌∙◌, ℕ, zero, suc, ◌+◌, ◌<◌, ◌≤◌, List, [], ◌∷◌, ◌++◌, append-nil, append_assoc, flat_map, length, length-append, take, Option, Some, None, inl, inr, ⊎_elim, refl, ap, ap₂, sym, subst, arith}
-use Rattle.std.specs.List.{AllByRecursion, slice_get}
-use Rattle.std.specs.Prelude.{⊤}
+use Rattle.std.proofs.Common.{◌≡◌, ◌≢◌, ◌⊎◌, ◌∙◌, ℕ, zero, suc, ◌+◌, ◌<◌, ◌≤◌, List, [], ◌∷◌, ◌++◌, append-nil, append_assoc, drop, flat_map, length, length-append, take, Some, None, ⊎_elim, refl, ap, sym, subst, arith}
+use Rattle.std.specs.List.{slice_get}
 use Rattle.std.proofs.lemmas.Bool.{cases_lt}
 use Rattle.std.proofs.lemmas.Grind.{flat_map-append}
-use Rattle.std.proofs.lemmas.List.{take-append-le, take_at}
+use Rattle.std.proofs.lemmas.List.{drop-append-le, drop_at, take-append-le, take_at}
 use Rattle.std.proofs.lemmas.Option.{same_Some, slice_get_within}
 use Rattle.hp_base.specs.declared.limits.TheConstants.{MAX_DEADLINE}
-use Rattle.hp_board.specs.Views.{values_of}
-use Rattle.hp_chair.specs.DoneBy.{entries_by}
+use Rattle.hp_chair.specs.FoundEmptyLaws.{nothing_among, split_at}
 use Rattle.hp_hall.specs.Mail.{MailStep, Notes}
-use Rattle.hp_hall.specs.declared.note.Note.{Note}
 use Rattle.hp_hall.specs.declared.note.Note.TheVariants.{LoadedDone, Stored}
 use Rattle.hp_heap.specs.declared.entry.Entry.{Entry}
-use Rattle.hp_proc.proofs.LawLemmas.{entries_go_on}
 use Rattle.hp_proc.specs.Awaiting.{HasAwaited, LooksUpLast}
 use Rattle.hp_proc.specs.Courses.{Standing, after_line, calls_in}
 use Rattle.hp_proc.specs.Doing.{Doing, Done, Goes, Leads}
@@ -23,6 +19,7 @@ use Rattle.hp_proc.specs.Lines.{Facts}
 use Rattle.hp_proc.specs.LineTrees.{doing_of}
 use Rattle.hp_proc.specs.LinesDone.{AreDone, Course, IsDone, trace_of}
 use Rattle.hp_proc.specs.ParticipantView.{ParticipantView, after_registering}
+use Rattle.hp_proc.specs.SharedNames.{no_changes}
 use Rattle.hp_script.specs.declared.answer.Answer.{Answer}
 use Rattle.hp_script.specs.declared.line.Act.{Act}
 use Rattle.hp_script.specs.declared.line.Act.TheVariants as act
@@ -32,47 +29,19 @@ use Rattle.hp_segs.proofs.AskFacts.Settled.{get_before}
 use Rattle.hp_segs.proofs.SlotFacts.ListFacts.{get_stays}
 use Rattle.hp_threads.proofs.ServesUntold.{served_untold}
 use Rattle.hp_threads.proofs.WaitsUntold.{acts_untold}
-use Rattle.hp_threads.specs.Adding.{IsUntelling, TellNothing}
-use Rattle.hp_threads.specs.Works.{DoesCourse, Works, tells}
+use Rattle.hp_threads.specs.Adding.{TellNothing}
+use Rattle.hp_threads.specs.Works.{Works, tells}
 use Rattle.thm_run.proofs.JudgedGrowths.Moments.{get_behind}
-use Rattle.thm_run.proofs.LineSteps.LineMore.{calls_more}
+use Rattle.thm_run.proofs.LineSteps.LineMore.{trace_more}
 use Rattle.thm_run.specs.OwnLines.{AddsByLines, WentByLines, added_in, heap_holds_from}
 use Rattle.thm_run.specs.Seats.{Seat}
 use Rattle.thm_together.proofs.OnTheWay.{line_on_its_way}
 use Rattle.thm_together.specs.OnItsWay.{IsOnItsWay}
-use Rattle.thm_home.proofs.ActsApart.{none_of}
-use Rattle.thm_home.proofs.ActsSplit.{nothing_among, split_at}
-use Rattle.thm_home.proofs.BesideHeap.{acts_free, added, added_then, held_after, held_both, held_beside, holds_then, none_added, others_beside}
-use Rattle.thm_home.proofs.WaysOfWorks.{AddsAmong, IsCounting, first_seat, line_adds, works_way}
-
--- WHAT CAME TO A HEAP BY A WAY
-
--- the heap is not in hand, and what came to it are the calls of the way's lines
-record HasCame (who heap : ℕ) (courses : List Course) (steps : List MailStep) : Type 0 where
-  free : held_after heap None steps ≡ None
-  made : added who heap None steps ≡ entries_for who heap 1 (calls_in (trace_of courses))
-
-way_came : {count who : ℕ} {first last : Seat} {courses : List Course} {steps : List MailStep}
-    → (way : WentByLines count who first last courses steps) → AddsByLines way → (heap : ℕ) → HasCame who heap courses steps
-way_came (WentByLines.begins seat) adds heap = record { free = refl; made = refl }
-way_came {count} {who} (WentByLines.beside first old new courses before steps went path same stays none) adds heap =
-    let was = way_came went adds heap in
-    let beside = others_beside heap steps none in
-    record {
-      free = held_both heap None before steps ∙ (held_beside heap (held_after heap None before) steps beside ∙ was.free);
-      made = added_then who heap before steps was.free
-          ∙ (ap (λ (l : List Entry). added who heap None before ++ l) (none_added who heap steps beside)
-          ∙ (append-nil (added who heap None before) ∙ was.made));
-    }
-way_came {count} {who} (WentByLines.does_line first old new courses course before steps went is) adds heap =
-    let was = way_came went adds.0 heap in
-    let calls = calls_in (trace_of courses) in
-    record {
-      free = held_both heap None before steps ∙ acts_free is.acts heap (held_after heap None before) (λ apart. was.free) (none_of heap);
-      made = added_then who heap before steps was.free
-          ∙ (ap₂ (λ (a b : List Entry). a ++ b) was.made (adds.1 heap).are
-          ∙ (sym (entries_go_on who heap 1 calls (calls_in course.trace)) ∙ ap (entries_for who heap 1) (sym (calls_more courses course))));
-    }
+use Rattle.thm_home.proofs.BesideHeap.{added, added_then, held_after, holds_then}
+use Rattle.thm_home.proofs.NamesSeen.{HasSeen, way_names}
+use Rattle.thm_home.proofs.TakenByLines.{AreTakenBy, taken_both, taken_line, taken_none, taken_on}
+use Rattle.thm_home.proofs.WaysCame.{way_came}
+use Rattle.thm_home.proofs.WaysOfWorks.{AddsAmong, first_seat, line_adds, works_way}
 
 -- WHAT STANDS AT A PLACE OF TWO LISTS
 
@@ -175,22 +144,34 @@ works_told {count} (Works.does doer mid last courses course steps more works did
     (split_at more noted now.0 after (Notes (Stored lines)) now.2))
     (split_at steps (more ++ noted) before after (Notes (Stored lines)) there)
 
--- so by then each heap had the calls of so many lines
+-- so by then each heap had the calls of so many lines, and it had seen of the names what these gave back last
+pub record HasDoneFirst (who : ℕ) (courses : List Course) (lines : ℕ) (steps : List MailStep) : Type 0 where
+  pub early : List Course
+  pub late : List Course
+  pub are : courses ≡ early ++ late
+  pub many : length early ≡ lines
+  pub made : (heap : ℕ) → added who heap None steps ≡ entries_for who heap 1 (calls_in (trace_of early))
+  pub seen : HasSeen no_changes early steps
+
 pub told_made : {count : ℕ} {first last : ParticipantView} {courses : List Course} {steps : List MailStep}
     → (works : Works count first last courses steps) → first.party.deadline ≤ MAX_DEADLINE → first.context.calls ≡ 0
-    → AddsAmong first.party.me steps → (before after : List MailStep) (lines : ℕ) → steps ≡ before ++ Notes (Stored lines) ∷ after → (heap : ℕ)
-    → added first.party.me heap None before ≡ entries_for first.party.me heap 1 (calls_in (trace_of (take lines courses)))
-told_made {count} {first} {last} {courses} {steps} works few none adds before after lines there heap =
+    → AddsAmong first.party.me steps → (before after : List MailStep) (lines : ℕ) → steps ≡ before ++ Notes (Stored lines) ∷ after
+    → HasDoneFirst first.party.me courses lines before
+told_made {count} {first} {last} {courses} {steps} works few none adds before after lines there =
     let gone = works_told works few none steps [] (sym (append-nil steps)) adds before after lines there in
-    let front : take lines courses ≡ gone.early =
-    ap (λ (l : List Course). take lines l) gone.courses_are
-    ∙ (ap (λ (n : ℕ). take n (gone.early ++ gone.late)) (sym gone.many) ∙ take_at gone.early gone.late (length gone.early) refl) in
-    (way_came gone.way gone.adds heap).made
-    ∙ ap (λ (l : List Course). entries_for first.party.me heap 1 (calls_in (trace_of l))) (sym front)
+    record {
+      early = gone.early;
+      late = gone.late;
+      are = gone.courses_are;
+      many = gone.many;
+      made = λ heap. (way_came gone.way gone.adds heap).made;
+      seen = way_names gone.way no_changes;
+    }
 
 -- WHERE IT AWAITED OTHERS
 
--- it looked up last that enough lines were done; and by then each heap had the calls of its lines before
+-- it looked up last that enough lines were done; by then each heap had the calls of its lines before; and what it was handed from that line on it
+-- took after that
 pub record HasLookedAt (who other lines place : ℕ) (courses : List Course) (steps : List MailStep) : Type 0 where
   pub before : List MailStep
   pub found : ℕ
@@ -198,6 +179,7 @@ pub record HasLookedAt (who other lines place : ℕ) (courses : List Course) (st
   pub enough : lines ≤ found
   pub is : steps ≡ before ++ Notes (LoadedDone other found) ∷ after
   pub made : (heap : ℕ) → added who heap None before ≡ entries_for who heap 1 (calls_in (trace_of (take place courses)))
+  pub taken : AreTakenBy (trace_of (drop place courses)) after
 
 -- a line that awaits does nothing else
 abbrev pub AwaitsAlone : List Course → Type 0
@@ -205,8 +187,9 @@ AwaitsAlone courses = (place other lines : ℕ) (course : Course) → slice_get 
     → course.trace ≡ []
 
 looked_more : (who other lines place : ℕ) (courses : List Course) (course : Course) (steps more : List MailStep) → place ≤ length courses
-    → HasLookedAt who other lines place courses steps → HasLookedAt who other lines place (courses ++ course ∷ []) (steps ++ more)
-looked_more who other lines place courses course steps more within looked = record {
+    → AreTakenBy course.trace more → HasLookedAt who other lines place courses steps
+    → HasLookedAt who other lines place (courses ++ course ∷ []) (steps ++ more)
+looked_more who other lines place courses course steps more within taken looked = record {
   before = looked.before;
   found = looked.found;
   after = looked.after ++ more;
@@ -215,6 +198,10 @@ looked_more who other lines place courses course steps more within looked = reco
   made = λ heap.
       looked.made heap
       ∙ ap (λ (l : List Course). entries_for who heap 1 (calls_in (trace_of l))) (sym (take-append-le place courses (course ∷ []) within));
+  taken =
+      subst (λ (trace : List Done). AreTakenBy trace (looked.after ++ more))
+      (sym (trace_more (drop place courses) course) ∙ ap trace_of (sym (drop-append-le place courses (course ∷ []) within)))
+      (taken_both (trace_of (drop place courses)) course.trace looked.after more looked.taken taken);
 }
 
 looked_beside : (who other lines place : ℕ) (courses : List Course) (steps more : List MailStep)
@@ -226,6 +213,7 @@ looked_beside who other lines place courses steps more looked = record {
   enough = looked.enough;
   is = ap (λ (l : List MailStep). l ++ more) looked.is ∙ append_assoc looked.before (Notes (LoadedDone other looked.found) ∷ looked.after) more;
   made = looked.made;
+  taken = taken_on (trace_of (drop place courses)) looked.after more looked.taken;
 }
 
 -- a look comes last of a line that awaits, so what was added before it is what the line added
@@ -265,6 +253,7 @@ works_looked {count} (Works.does doer mid last courses course steps more works d
     (λ (before : place < length courses).
     let here : slice_get courses place ≡ Some one = sym (get_before courses (course ∷ []) place before) ∙ there in
     looked_more me other lines place courses course steps (more ++ noted) (omega (arith, before))
+    (taken_on course.trace more noted (taken_line did.acts did.once did.names))
     (works_looked works few none whole ((more ++ noted) ++ later) split adds early place other lines one here awaits))
     (λ (behind : length courses ≤ place).
     let within = slice_get_within (courses ++ course ∷ []) place one there in
@@ -291,6 +280,11 @@ works_looked {count} (Works.does doer mid last courses course steps more works d
           added_look me heap other look.found look.before steps more look.last came.free
           ((line heap).are ∙ ap (λ (trace : List Done). entries_for me heap (1 + length (calls_in (trace_of courses))) (calls_in trace)) nothing)
           ∙ (came.made ∙ ap (λ (l : List Course). entries_for me heap 1 (calls_in (trace_of l))) (sym front));
+      taken =
+          taken_none (trace_of (drop place (courses ++ course ∷ []))) noted
+          (ap trace_of
+          (ap (λ (n : ℕ). drop n (courses ++ course ∷ [])) last_place ∙ drop_at courses (course ∷ []) (length courses) refl)
+          ∙ (trace_more [] course ∙ nothing));
     })
     (cases_lt place (length courses))
 

@@ -1,4 +1,5 @@
 pub mod AllAtBoard
+pub mod AwaitedForAtBoard
 pub mod ThreadsEnded
 pub mod ThreadsHome
 pub mod ThreadsMail
@@ -14,7 +15,10 @@ pub mod StatsHanded
 pub mod StatsAtBoard
 pub mod ThreadsStats
 mod FirstLines
+pub mod NamesSeen
 mod SeatsTold
 mod SeenStates
+pub mod TakenByLines
 mod TakenFronts
+mod WaysCame
 pub mod StatesAtBoard

@@ -1,27 +1,34 @@
 -- What a seat knows of lines that its participant told to be done and of those that it looked up, by the steps that it made there.
-use Rattle.std.proofs.Common.{◌≡◌, ◌∙◌, ℕ, ◌≤◌, List, [], ◌∷◌, ◌++◌, append-nil, append_assoc, Contains, length, take, Option, None, inl, inr, refl, ap, sym, subst}
-use Rattle.std.proofs.lemmas.List.{take_at}
+use Rattle.std.proofs.Common.{◌≡◌, ◌∙◌, ℕ, ◌≤◌, List, [], ◌∷◌, ◌++◌, append-nil, append_assoc, Contains, drop, length, take, Option, None, inl, inr, refl, ap, sym, subst}
+use Rattle.std.proofs.lemmas.Grind.{flat_map-append}
+use Rattle.std.proofs.lemmas.List.{drop_at, take_at}
 use Rattle.std.proofs.lemmas.List.Elements.{Contains-append_cases}
 use Rattle.hp_board.specs.Lines.{made_by_then}
-use Rattle.hp_board.specs.Views.{BeginsWith, newcomer, none_done, values_of}
+use Rattle.hp_board.specs.Views.{newcomer, none_done, values_of}
 use Rattle.hp_board.specs.declared.opening.Opening.{Opening}
-use Rattle.hp_board.specs.declared.view.Awaited.{Awaited}
 use Rattle.hp_board.specs.declared.view.LinesDone.{LinesDone}
 use Rattle.hp_board.specs.declared.view.Mine.{Mine}
+use Rattle.hp_board.specs.declared.view.Move.{Move}
+use Rattle.hp_board.specs.declared.view.Move.TheVariants.{Took}
 use Rattle.hp_chair.proofs.LooksKept.{look_kept}
 use Rattle.hp_chair.specs.DoneBy.{IsDoneBy, entries_by, look_then, mark_then, marks_at, marks_by}
 use Rattle.hp_chair.specs.DoneLaws.{entries_by-append}
-use Rattle.hp_chair.specs.Steps.{in_hand}
+use Rattle.hp_chair.specs.Steps.{in_hand, move_in, moves_in}
 use Rattle.hp_hall.specs.Mail.{MailStep, Notes}
 use Rattle.hp_hall.specs.declared.kept.Kept.{Kept}
+use Rattle.hp_hall.specs.declared.kept.Kept.TheVariants.{Heap, Names}
 use Rattle.hp_hall.specs.declared.note.Note.TheVariants.{LoadedDone, Stored}
+use Rattle.hp_hall.specs.declared.slot.TheConstants.{NAMES_SLOT}
 use Rattle.hp_heap.proofs.AllocFacts.ChoiceLaw.{Contains-cases, Contains-none}
-use Rattle.hp_heap.specs.declared.entry.Entry.{Entry}
+use Rattle.hp_zone.specs.declared.name_change.NameChange.{NameChange}
+use Rattle.hp_zone.specs.declared.zone.ZoneChange.{ZoneChange}
 use Rattle.hp_proc.specs.Courses.{calls_in}
 use Rattle.hp_proc.specs.Histories.{entries_for}
 use Rattle.hp_proc.specs.LinesDone.{Course, trace_of}
-use Rattle.thm_moved.specs.AtBoard.{HasLooked}
+use Rattle.thm_moved.specs.AtBoard.{HasLooked, HasTold}
 use Rattle.thm_home.proofs.BesideHeap.{added}
+use Rattle.thm_home.proofs.FirstLines.{HasDoneFirst}
+use Rattle.thm_home.proofs.TakenByLines.{AreTakenBy, taken_move, taken_state}
 use Rattle.thm_home.proofs.WaysOfWorks.{AddsAmong}
 
 -- WHERE A MARK WAS MADE
@@ -69,10 +76,6 @@ mark_at mine so_far (step ∷ steps) mark has =
 
 -- WHAT WAS MADE BY THEN
 
-none_first : (courses : List Course) → take 0 courses ≡ []
-none_first [] = refl
-none_first (course ∷ courses) = refl
-
 -- nothing is in hand
 abbrev empty_hand : ℕ → Option Kept
 empty_hand slot = None
@@ -92,47 +95,76 @@ module _ (opening : Opening) (who : ℕ) (mine : Mine) (steps : List MailStep) (
       → values_of heap (take (length (entries_by empty_hand before)) mine.made) ≡ added who heap None before
   heap_made before rest is heap = ap (values_of heap) (first_made before rest is) ∙ sym (adds [] before rest is heap).are
 
-  -- so a mark has what was made by then
-  marked_so : (courses : List Course)
-      → ((before after : List MailStep) (lines : ℕ) → steps ≡ before ++ Notes (Stored lines) ∷ after → (heap : ℕ)
-      → added who heap None before ≡ entries_for who heap 1 (calls_in (trace_of (take lines courses))))
-      → (mark : LinesDone) → Contains mine.done mark → (heap : ℕ)
-      → BeginsWith (made_by_then heap mark mine) (entries_for who heap 1 (calls_in (trace_of (take mark.lines courses))))
-  marked_so courses gone mark has heap =
+  -- so a mark has what was made by then, and what was seen of the names
+  pub marked_so : (courses : List Course)
+      → ((before after : List MailStep) (lines : ℕ) → steps ≡ before ++ Notes (Stored lines) ∷ after → HasDoneFirst who courses lines before)
+      → (mark : LinesDone) → Contains mine.done mark → HasTold who courses mine mark
+  marked_so courses gone mark has =
       elim (Contains-append_cases (marks_by (newcomer opening who) [] steps) (none_done ∷ []) mark
       (subst (λ (marks : List LinesDone). Contains marks mark) did.told has)) [
         | inl among ↦ at (mark_at (newcomer opening who) [] steps mark among)
         | inr first ↦ elim (Contains-cases none_done mark [] first) [
-          | inl is ↦ subst
-              (λ (mark : LinesDone). BeginsWith (made_by_then heap mark mine) (entries_for who heap 1 (calls_in (trace_of (take mark.lines courses)))))
-              is (made_by_then heap none_done mine, ap (λ (l : List Entry). l ++ made_by_then heap none_done mine) (sym none_so))
+          | inl is ↦ subst (HasTold who courses mine) is (record {
+              early = [];
+              late = courses;
+              are = refl;
+              many = refl;
+              made = λ heap. refl;
+              zones = refl;
+              names = refl;
+            })
           | inr none ↦ absurd (Contains-none mark none)
         ]
       ]
     where
-      none_so : entries_for who heap 1 (calls_in (trace_of (take 0 courses))) ≡ []
-      none_so = ap (λ (l : List Course). entries_for who heap 1 (calls_in (trace_of l))) (none_first courses)
-
-      at : IsMarkAt (newcomer opening who) [] steps mark
-          → BeginsWith (made_by_then heap mark mine) (entries_for who heap 1 (calls_in (trace_of (take mark.lines courses))))
+      at : IsMarkAt (newcomer opening who) [] steps mark → HasTold who courses mine mark
       at is =
-          let made : made_by_then heap mark mine ≡ entries_for who heap 1 (calls_in (trace_of (take is.lines courses))) =
-          ap (λ (mark : LinesDone). made_by_then heap mark mine) is.mark_is
-          ∙ (heap_made is.before (Notes (Stored is.lines) ∷ is.after) is.is heap ∙ gone is.before is.after is.lines is.is heap) in
-          let lines : mark.lines ≡ is.lines = ap (λ (mark : LinesDone). mark.lines) is.mark_is in
-          ([], made
-              ∙ (ap (λ (n : ℕ). entries_for who heap 1 (calls_in (trace_of (take n courses)))) (sym lines)
-              ∙ sym (append-nil (entries_for who heap 1 (calls_in (trace_of (take mark.lines courses)))))))
+          let done = gone is.before is.after is.lines is.is in
+          record {
+            early = done.early;
+            late = done.late;
+            are = done.are;
+            many = done.many ∙ sym (ap (λ (mark : LinesDone). mark.lines) is.mark_is);
+            made = λ heap.
+                ap (λ (mark : LinesDone). made_by_then heap mark mine) is.mark_is
+                ∙ (heap_made is.before (Notes (Stored is.lines) ∷ is.after) is.is heap ∙ done.made heap);
+            zones = ap (λ (mark : LinesDone). mark.zones) is.mark_is ∙ ap (λ (zones : List ZoneChange). length zones) done.seen.zones;
+            names = ap (λ (mark : LinesDone). mark.names) is.mark_is ∙ ap (λ (changes : List NameChange). length changes) done.seen.names;
+          }
+
+  -- what it took after some steps, it took since it had made as many moves
+  moves_since : (before after : List MailStep) (other found : ℕ) → steps ≡ before ++ Notes (LoadedDone other found) ∷ after
+      → drop (length (moves_in before)) mine.moves ≡ moves_in after
+  moves_since before after other found is =
+      ap (drop (length (moves_in before)))
+      (did.moves ∙ (ap moves_in is ∙ flat_map-append move_in before (Notes (LoadedDone other found) ∷ after)))
+      ∙ drop_at (moves_in before) (moves_in after) (length (moves_in before)) refl
 
   -- and what it looked up stands in its view
-  looked_so : (place other lines found : ℕ) (courses : List Course) (before after : List MailStep) → lines ≤ found
+  pub looked_so : (place other lines found : ℕ) (courses : List Course) (before after : List MailStep) → lines ≤ found
       → steps ≡ before ++ Notes (LoadedDone other found) ∷ after
       → ((heap : ℕ) → added who heap None before ≡ entries_for who heap 1 (calls_in (trace_of (take place courses))))
-      → HasLooked who place other lines courses mine
-  looked_so place other lines found courses before after enough is made = record {
+      → AreTakenBy (trace_of (drop place courses)) after → HasLooked who place other lines courses mine
+  looked_so place other lines found courses before after enough is made taken = record {
     awaited = look_then (newcomer opening who) before found;
     there = look_kept (newcomer opening who) mine before after other found
         (subst (IsDoneBy (newcomer opening who) mine) is did);
     enough = enough;
     made = λ heap. heap_made before (Notes (LoadedDone other found) ∷ after) is heap ∙ made heap;
+    states = λ heap history first rest comes.
+        let its = taken_state heap history after (taken.states heap history first rest comes) in
+        (
+          its.0,
+          its.1,
+          its.2,
+          subst (λ (moves : List Move). Contains moves (Took heap (Heap its.0 its.1))) (sym (moves_since before after other found is)) its.3,
+        );
+    names = λ shown first rest comes.
+        let its = taken.names shown first rest comes in
+        (
+          its.0,
+          its.1,
+          subst (λ (moves : List Move). Contains moves (Took NAMES_SLOT (Names its.0))) (sym (moves_since before after other found is))
+              (taken_move after NAMES_SLOT (Names its.0) its.2),
+        );
   }

@@ -24,8 +24,8 @@ use Rattle.thm_run.proofs.LineSteps.LineMore.{trace_more}
 use Rattle.thm_run.specs.OwnLines.{AddsByLines, IsLineOf, WentByLines}
 use Rattle.thm_run.specs.Seats.{Seat}
 use Rattle.thm_home.proofs.ActsApart.{acts_apart, none_of}
-use Rattle.thm_home.proofs.BesideHeap.{AreBeside, acts_free, added, added_then, beside_both, held_after, held_beside, held_both, none_added, others_beside}
-use Rattle.thm_home.proofs.FirstLines.{way_came}
+use Rattle.thm_home.proofs.BesideHeap.{AreBeside, added, added_then, beside_both, held_after, held_beside, held_both, none_added}
+use Rattle.thm_home.proofs.WaysCame.{way_came}
 
 -- IN A LINE'S DOINGS
 
@@ -86,16 +86,16 @@ seen_twice index trace first rest early between history other is also few =
     omega (arith, all, one, some, few)
 
 -- that heap was taken when its state was handed; until then none of these steps touched it, and no call was of it
-record IsSeenIn (index : ℕ) (held : List ℕ) (first : List Done) (history : List Entry) (steps : List MailStep) : Type 0 where
-  heap : HeapView
-  pen : PenView
-  index_is : heap.plain.index ≡ index
-  history_is : heap.history ≡ history
-  before : List MailStep
-  behind : List MailStep
-  steps_are : steps ≡ before ++ Takes heap.plain.index (Heap heap pen) ∷ behind
-  beside : AreBeside index before
-  calls : (who number : ℕ) → entries_for who index number (calls_in first) ≡ []
+pub record IsSeenIn (index : ℕ) (held : List ℕ) (first : List Done) (history : List Entry) (steps : List MailStep) : Type 0 where
+  pub heap : HeapView
+  pub pen : PenView
+  pub index_is : heap.plain.index ≡ index
+  pub history_is : heap.history ≡ history
+  pub before : List MailStep
+  pub behind : List MailStep
+  pub steps_are : steps ≡ before ++ Takes heap.plain.index (Heap heap pen) ∷ behind
+  pub beside : AreBeside index before
+  pub calls : (who number : ℕ) → entries_for who index number (calls_in first) ≡ []
 
 -- who takes it here has done nothing before
 seen_here : (index : ℕ) (heap : HeapView) (pen : PenView) (history : List Entry) → heap.plain.index ≡ index → heap.history ≡ history
@@ -149,7 +149,7 @@ seen_before index held more first history steps late seen = record {
   calls = seen.calls;
 }
 
-acts_seen : {count : ℕ} {hand fin : Option ℕ} {held : List ℕ} {doer after : ParticipantView} {trace : List Done} {steps : List MailStep}
+pub acts_seen : {count : ℕ} {hand fin : Option ℕ} {held : List ℕ} {doer after : ParticipantView} {trace : List Done} {steps : List MailStep}
     → Acts count hand fin held doer after trace steps → (index : ℕ) (first rest : List Done) (history : List Entry)
     → trace ≡ first ++ HeapSeen index history ∷ rest → hand ≢ Some index → times index held ≤ 1 → IsSeenIn index held first history steps
 acts_seen (Acts.sees_heap doer heap pen few) index [] rest history is apart once =
@@ -198,7 +198,7 @@ pub record IsTakenIn (index : ℕ) (history : List Entry) (steps : List MailStep
   pub behind : List MailStep
   pub steps_are : steps ≡ before ++ Takes heap.plain.index (Heap heap pen) ∷ behind
 
-taken_further : (index : ℕ) (history : List Entry) (steps more : List MailStep) → IsTakenIn index history steps
+pub taken_further : (index : ℕ) (history : List Entry) (steps more : List MailStep) → IsTakenIn index history steps
     → IsTakenIn index history (steps ++ more)
 taken_further index history steps more taken = record {
   heap = taken.heap;
@@ -222,6 +222,7 @@ pub record IsSeenAt (who index : ℕ) (first : List Done) (history : List Entry)
 
 seen_further : (who index : ℕ) (first : List Done) (history : List Entry) (steps more : List MailStep) → IsSeenAt who index first history steps
     → IsSeenAt who index first history (steps ++ more)
+unfolding taken_further
 seen_further who index first history steps more at = record {
   taken = taken_further index history steps more at.taken;
   free = at.free;

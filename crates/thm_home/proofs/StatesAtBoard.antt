@@ -47,7 +47,7 @@ use Rattle.thm_home.proofs.TakenFronts.{IsTakenAt, taken_at}
 -- WHAT A TRACE SHOWS OF ONE HEAP
 
 -- where a done thing shows a state of that heap, it is that
-state_is : (index : ℕ) (done : Done) (history : List Entry) → state_seen index done ≡ Some history → done ≡ HeapSeen index history
+pub state_is : (index : ℕ) (done : Done) (history : List Entry) → state_seen index done ≡ Some history → done ≡ HeapSeen index history
 state_is index (HeapSeen heap seen) history is = by_index (heap == index) refl is
   where
     by_index : (same : Bool) → (heap == index) ≡ same → cond same (Some seen) None ≡ Some history → HeapSeen heap seen ≡ HeapSeen index history

@@ -28,7 +28,7 @@ use Rattle.hp_heap.specs.declared.entry.Entry.{Entry}
 use Rattle.hp_maps.specs.declared.table.Table.{Table}
 use Rattle.hp_proc.specs.Doing.{Counted, Done}
 use Rattle.hp_proc.specs.Handed.{AreStatsHanded}
-use Rattle.hp_proc.specs.LinesDone.{Course, trace_of}
+use Rattle.hp_proc.specs.LinesDone.{trace_of}
 use Rattle.hp_script.specs.declared.answer.Answer.{Answer}
 use Rattle.hp_script.specs.declared.workload.Workload.{Workload}
 use Rattle.hp_segs.specs.SegsView.{SegsView}

@@ -1,14 +1,13 @@
 -- What a participant read of the statistics of one heap on its way, where pens and passes have met.
-use Rattle.std.proofs.Common.{◌≡◌, ◌⊎◌, ◌∙◌, ℕ, ◌+◌, ◌<◌, ◌≤◌, List, [], ◌∷◌, ◌++◌, append-nil, append_assoc, filter_map, length, map, take, Option, Some, None, inl, inr, refl, ap, sym, subst, arith}
+use Rattle.std.proofs.Common.{◌≡◌, ◌⊎◌, ◌∙◌, ℕ, ◌+◌, ◌<◌, ◌≤◌, List, [], ◌∷◌, ◌++◌, append_assoc, filter_map, length, map, Option, Some, None, inl, inr, refl, ap, sym, subst, arith}
 use Rattle.core.specs.List.{cons_option}
-use Rattle.std.specs.Prelude.{Contains}
 use Rattle.std.specs.List.{All, slice_get}
 use Rattle.std.proofs.lemmas.List.Elements.{All-cons, All-nil}
 use Rattle.hp_chair.specs.Publishing.{CountsRise}
 use Rattle.hp_chair.specs.Steps.{pairs_in}
 use Rattle.hp_hall.specs.HeapPairs.{ArePairsOf}
 use Rattle.hp_hall.specs.Mail.{MailStep}
-use Rattle.hp_heap.specs.History.{HeapView, opening_of, replay}
+use Rattle.hp_heap.specs.History.{HeapView, opening_of}
 use Rattle.hp_heap.specs.PlainHeap.{PlainHeap}
 use Rattle.hp_heap.specs.Statistics.{statistics_of}
 use Rattle.hp_heap.specs.declared.entry.Entry.{Entry}
@@ -25,7 +24,7 @@ use Rattle.thm_run.proofs.Rising.{Rises, seen_rising}
 use Rattle.thm_run.proofs.StatsFronts.{read_is}
 use Rattle.thm_moved.proofs.OwnEntries.{AreAbove, all_above, own_above, stands_before}
 use Rattle.thm_home.proofs.GivenFronts.{GoesOnWith}
-use Rattle.thm_home.proofs.ReadPlaces.{IsReadAt, IsShown, pair_among}
+use Rattle.thm_home.proofs.ReadPlaces.{IsReadAt, pair_among}
 
 -- OWN ENTRIES
 

@@ -16,13 +16,14 @@ use Rattle.hp_segs.specs.SegsView.{SegsView}
 use Rattle.hp_segs.specs.declared.ask.Ask.{Ask}
 use Rattle.hp_zone.specs.declared.names.Names.{Names as NamesView}
 use Rattle.hp_serve.specs.Party.{Party}
+use Rattle.hp_proc.specs.AwaitedNames.{AreAwaitedFor}
 use Rattle.hp_proc.specs.Handed.{AreHanded}
 use Rattle.hp_proc.specs.Handing.{shared_of}
 use Rattle.hp_proc.specs.Heaps.{sockets_of}
 use Rattle.hp_proc.specs.LinesDone.{Course, courses_of, trace_of}
 use Rattle.hp_proc.specs.NamesLog.{changes_in, changes_made}
 use Rattle.hp_proc.specs.ParticipantView.{ParticipantView}
-use Rattle.hp_proc.specs.RunEnds.{did_of}
+use Rattle.hp_proc.specs.RunEnds.{EndsWithNames}
 use Rattle.thm_run.proofs.PathSteps.Walked.{get_there}
 use Rattle.thm_run.specs.EndLaws.{FailsFor, IsGiven}
 use Rattle.thm_run.specs.SoFar.{AreSoundNames, first_segs}
@@ -40,7 +41,8 @@ use Rattle.thm_together.specs.CameHome.{courses_in_order}
 use Rattle.thm_together.specs.Failing as home
 use Rattle.hp_threads.specs.Running.{ThreadsLeave}
 use Rattle.thm_moved.specs.NamesLeft.{AreLeftSo}
-use Rattle.thm_home.proofs.AllAtBoard.{home_of_threads, names_changed_of_threads, names_handed_of_threads, names_left_of_threads, states_of_threads}
+use Rattle.thm_home.proofs.AllAtBoard.{awaited_of_threads, home_of_threads, names_changed_of_threads, names_handed_of_threads, names_left_of_threads, states_of_threads}
+use Rattle.thm_home.proofs.AwaitedForAtBoard.{HaveAwaitedFor}
 use Rattle.thm_home.specs.EndOfThreads.{CameHomeFrom, EndOfThreads, FailAsBrought, MayFailAt, MayFailSo, ThreadsEnd}
 
 module _ (workload : Workload) (firsts : List ParticipantView) (answers : List Answer) (heaps : List HeapView) (segs : SegsView)
@@ -99,6 +101,31 @@ module _ (workload : Workload) (firsts : List ParticipantView) (answers : List A
     left : AreLeftSo workload (shared_of names) heaps segs tables
     changed : IsPermutation (changes_made workload.participants (λ who. trace_of (came.home.courses who))) (changes_in (shared_of names))
     handed : (who : ℕ) → AreHanded (shared_of names) heaps who (trace_of (came.home.courses who))
+    awaited_for : HaveAwaitedFor came.home.courses heaps
+
+  awaited_in_order : HaveAwaitedFor came.home.courses heaps → AreAwaitedFor (courses_in_order workload came.home.courses) heaps
+  awaited_in_order awaited who place other lines course there awaits =
+      let is = subst (λ (own : ℕ → List Course). HaveAwaitedFor own heaps) each_is awaited who place other lines course there awaits in
+      record { names = is.names; states = is.states }
+
+  names_end : (names : NamesView) → HasNames names
+      → EndsWithNames workload (courses_in_order workload came.home.courses) (shared_of names) heaps segs tables
+  names_end names has =
+      record {
+        changes = record {
+          made = subst (λ (own : ℕ → List Course). IsPermutation (changes_made workload.participants (λ who. trace_of (own who)))
+              (changes_in (shared_of names))) each_is has.changed;
+          sockets = has.left.sockets;
+        };
+        count = has.left.count;
+        directory = has.left.directory;
+        zones = has.left.zones;
+        claimed = has.left.claimed;
+        handed = λ who.
+            subst (λ (own : List Course). AreHanded (shared_of names) heaps who (trace_of own)) (sym (own_is who)) (has.handed who);
+        awaited_for = awaited_in_order has.awaited_for;
+        attached = has.left.attached;
+      }
 
   all : (names : NamesView) → HasNames names → ThreadsEnd workload firsts answers heaps segs names tables
   all names has =
@@ -109,15 +136,9 @@ module _ (workload : Workload) (firsts : List ParticipantView) (answers : List A
         names_sound = has.sound;
         names_agree = has.agree;
         end = ended.0;
-        left = has.left;
-        changed =
-            subst (λ (courses : List Course). IsPermutation (changes_made workload.participants (did_of courses)) (changes_in (shared_of names)))
-            (sym ended.1)
-            (subst (λ (own : ℕ → List Course). IsPermutation (changes_made workload.participants (λ who. trace_of (own who)))
-            (changes_in (shared_of names))) each_is has.changed);
-        handed = λ who.
-            subst (λ (courses : List Course). AreHanded (shared_of names) heaps who (trace_of (courses_of who courses))) (sym ended.1)
-            (subst (λ (own : List Course). AreHanded (shared_of names) heaps who (trace_of own)) (sym (own_is who)) (has.handed who));
+        names_end =
+            subst (λ (courses : List Course). EndsWithNames workload courses (shared_of names) heaps segs tables) (sym ended.1)
+            (names_end names has);
         failed = subst (λ (courses : List Course). FailAsBrought firsts courses segs.asks) (sym ended.1) failed;
         alike = ends_alike workload answers heaps segs tables ended.0;
         pages = end_pages_alike workload answers heaps segs tables ended.0;
@@ -142,6 +163,7 @@ end_of_threads workload firsts answers heaps segs names tables watchers given de
           shown = names_handed_of_threads workload firsts answers heaps segs names tables watchers given declared leave who;
           states = states_of_threads workload firsts answers heaps segs names tables watchers given declared leave who;
       };
+      awaited_for = awaited_of_threads workload firsts answers heaps segs names tables watchers given declared leave;
     })
 
 -- its lines are those with which all came home

@@ -1,5 +1,5 @@
 -- What threads leave: each participant came to its seat at the board.
-use Rattle.std.proofs.Common.{◌≡◌, ◌∙◌, ℕ, ◌<◌, ◌≤◌, eqb, eq-eqb, List, [], ◌∷◌, ◌++◌, take, None, refl, ap, sym, subst, arith}
+use Rattle.std.proofs.Common.{◌≡◌, ◌∙◌, ℕ, ◌<◌, ◌≤◌, eqb, eq-eqb, List, [], ◌∷◌, ◌++◌, refl, ap, sym, subst, arith}
 use Rattle.std.specs.List.{All}
 use Rattle.std.specs.Prelude.{Some, slice_get}
 use Rattle.std.proofs.lemmas.Bool.{cond-true}
@@ -31,6 +31,7 @@ use Rattle.hp_proc.specs.Courses.{calls_in}
 use Rattle.hp_proc.specs.Histories.{entries_for}
 use Rattle.hp_proc.specs.LinesDone.{AreDone, Course, courses_of, opening_standing, standing_after, trace_of}
 use Rattle.hp_proc.specs.ParticipantView.{ParticipantView}
+use Rattle.hp_proc.specs.SharedNames.{no_changes}
 use Rattle.thm_run.proofs.SeatFacts.FirstSegs.{member_first}
 use Rattle.thm_run.proofs.InTurnByHolds.LinesInHolds.{way_by_lines}
 use Rattle.thm_run.specs.EndLaws.{IsGiven}
@@ -45,8 +46,8 @@ use Rattle.thm_together.specs.OnItsWay.{IsOnItsWay}
 use Rattle.thm_moved.proofs.ClosedHeaps.{at_a_place}
 use Rattle.thm_moved.proofs.HeapsAdded.{adds_by_moves}
 use Rattle.thm_moved.specs.AtBoard.{CameToItsSeat, HasLooked}
-use Rattle.thm_home.proofs.BesideHeap.{added}
-use Rattle.thm_home.proofs.FirstLines.{AwaitsAlone, HasLookedAt, awaits_alone, told_made, works_looked}
+use Rattle.thm_home.proofs.FirstLines.{AwaitsAlone, HasDoneFirst, HasLookedAt, awaits_alone, told_made, works_looked}
+use Rattle.thm_home.proofs.NamesSeen.{HasSeen, way_names}
 use Rattle.thm_home.proofs.SeatsTold.{looked_so, marked_so}
 use Rattle.thm_home.proofs.WaysOfWorks.{AddsAmong, IsCounting, first_seat, works_way}
 
@@ -184,12 +185,15 @@ module _ (workload : Workload) (firsts : List ParticipantView) (answers : List A
   its_deadline = few workload given who below first promised.newcomer
 
   -- what it told of its lines, it had done by then
-  told_so : (before after : List MailStep) (lines : ℕ) → steps ≡ before ++ Notes (Stored lines) ∷ after → (heap : ℕ)
-      → added who heap None before ≡ entries_for who heap 1 (calls_in (trace_of (take lines its_courses)))
+  told_so : (before after : List MailStep) (lines : ℕ) → steps ≡ before ++ Notes (Stored lines) ∷ after → HasDoneFirst who its_courses lines before
   told_so =
-      subst (λ (me : ℕ). (before after : List MailStep) (lines : ℕ) → steps ≡ before ++ Notes (Stored lines) ∷ after → (heap : ℕ)
-      → added me heap None before ≡ entries_for me heap 1 (calls_in (trace_of (take lines its_courses)))) its_me
+      subst (λ (me : ℕ). (before after : List MailStep) (lines : ℕ) → steps ≡ before ++ Notes (Stored lines) ∷ after
+      → HasDoneFirst me its_courses lines before) its_me
       (told_made promised.has.works its_deadline (no_calls workload given who below first promised.newcomer) adds)
+
+  -- what it has seen of the names is what its lines gave back last
+  seen : HasSeen no_changes its_courses steps
+  seen = way_names its_way.0 no_changes
 
   -- and where it awaited others, it looked them up
   alone : AwaitsAlone its_courses
@@ -203,7 +207,7 @@ module _ (workload : Workload) (firsts : List ParticipantView) (answers : List A
       (works_looked promised.has.works its_deadline (no_calls workload given who below first promised.newcomer) steps [] (sym (append-nil steps))
       adds alone place other lines course there awaits) in
       looked_so leave.board.opening who seat.mine steps promised.home.done its_adds place other lines at.found its_courses at.before at.after
-      at.enough at.is at.made
+      at.enough at.is at.made at.taken
 
   pub came_to_it : CameToItsSeat workload who (first_seat first) on.seat its_courses steps seat table
   came_to_it = record {
@@ -215,6 +219,8 @@ module _ (workload : Workload) (firsts : List ParticipantView) (answers : List A
         ∙ (ap (λ who. entries_for who heap 1 (calls_in (trace_of (courses_of who its_courses)))) whose
         ∙ ap (λ courses. entries_for who heap 1 (calls_in (trace_of courses))) own_is);
     told = marked_so leave.board.opening who seat.mine steps promised.home.done its_adds its_courses told_so;
+    zones = promised.home.done.zones ∙ seen.zones;
+    names = promised.home.done.changes ∙ seen.names;
     looked = looked_so_far;
     ends = record {
       tied = subst

@@ -2,7 +2,6 @@
 -- docs/RUNS.md.
 use Rattle.std.specs.Prelude.{◌≡◌, ℕ, ◌<◌, true, List, Contains, Option, Some, slice_get}
 use Rattle.std.specs.List.{All}
-use Rattle.std.specs.List.Sorted.{IsPermutation}
 use Rattle.hp_base.specs.Mapping.{may_fail_at}
 use Rattle.hp_base.specs.declared.map_answer.MapAnswer.{MapAnswer}
 use Rattle.hp_board.specs.Closing.{left_naming}
@@ -20,13 +19,11 @@ use Rattle.hp_segs.specs.declared.ask.Ask.{Ask}
 use Rattle.hp_segs.specs.declared.outcome.AskLog.{AskLog}
 use Rattle.hp_zone.specs.declared.names.Names.{Names as NamesView}
 use Rattle.hp_proc.specs.Ends.{IsEnd}
-use Rattle.hp_proc.specs.Handed.{AreHanded}
 use Rattle.hp_proc.specs.Handing.{shared_of}
 use Rattle.hp_proc.specs.Heaps.{sockets_of}
 use Rattle.hp_proc.specs.LinesDone.{Course, courses_of}
-use Rattle.hp_proc.specs.NamesLog.{changes_in, changes_made}
 use Rattle.hp_proc.specs.ParticipantView.{ParticipantView}
-use Rattle.hp_proc.specs.RunEnds.{did_of}
+use Rattle.hp_proc.specs.RunEnds.{EndsWithNames}
 use Rattle.thm_run.specs.EndLaws.{FailsFor, IsFailedMapping, IsGiven, IsRefusedMapping}
 use Rattle.thm_run.specs.Handing.{HaveStatistics, HaveWatchers, listeners_in}
 use Rattle.thm_run.specs.Seats.{Seat}
@@ -35,7 +32,6 @@ use Rattle.thm_alike.specs.Alike.{PagesAlike, TablesAlike}
 use Rattle.thm_alike.specs.Restored.{FailuresLeaveNoRow, GrowthsRestore, TablesRestore}
 use Rattle.thm_causes.specs.Nones.{NothingWasFound}
 use Rattle.thm_together.specs.CameHome.{AllCameHome}
-use Rattle.thm_moved.specs.NamesLeft.{AreLeftSo}
 use Rattle.hp_threads.specs.Running.{ThreadsLeave}
 
 -- the mapper that one of these participants brought may answer so
@@ -65,7 +61,8 @@ pub record FailAsBrought (firsts : List ParticipantView) (courses : List Course)
 
 -- What participants leave that began so and did their lines on threads: an end of the workload, with names that opened with the heaps of its sockets,
 -- that have the changes of the lines and no others, and that agree with the heaps and with the claimed external memory: directory, chunks, memzones and
--- marks; what lines are handed of them and of the states of heaps are fronts of what there is and never grow shorter from line to line. Mappings failed
+-- marks; what lines are handed of them and of the states of heaps are fronts of what there is and never grow shorter from line to line, and after lines that
+-- await others they hold what those changed. Mappings failed
 -- only as the mappers may that they brought; all who are attached map what is in use alike, each page of a heap with it, and a growth that
 -- failed left no row; a line that is answered that there is no memory found no address in its heaps and was granted nothing; and the segment
 -- value came about by calls, each under its condition, among which each growth that failed left all else as the other calls meanwhile would have
@@ -76,9 +73,7 @@ pub record ThreadsEnd (workload : Workload) (firsts : List ParticipantView) (ans
   pub names_sound : AreSoundNames names
   pub names_agree : AreAgreedNames names (left_naming heaps) segs.ranges
   pub end : IsEnd workload answers heaps segs tables
-  pub left : AreLeftSo workload (shared_of names) heaps segs tables
-  pub changed : IsPermutation (changes_made workload.participants (did_of end.courses)) (changes_in (shared_of names))
-  pub handed : (who : ℕ) → AreHanded (shared_of names) heaps who (did_of end.courses who)
+  pub names_end : EndsWithNames workload end.courses (shared_of names) heaps segs tables
   pub failed : FailAsBrought firsts end.courses segs.asks
   pub alike : TablesAlike segs tables
   pub pages : PagesAlike heaps segs tables

@@ -101,7 +101,7 @@ nothing_stands history other who calls behind none early late entry next at_earl
     absurd (omega (arith, never))
 
 -- of the first lines that were told to be done, fewer are their front
-first_are : (who : ℕ) (lines : ℕ) (courses : List Course) (mine : Mine) (mark : LinesDone) (told : HasTold who courses mine mark)
+pub first_are : (who : ℕ) (lines : ℕ) (courses : List Course) (mine : Mine) (mark : LinesDone) (told : HasTold who courses mine mark)
     → lines ≤ mark.lines → take lines courses ≡ take lines told.early
 first_are who lines courses mine mark told few =
     let many = told.many in
@@ -143,11 +143,22 @@ behind_front other heap lines courses front back all (more, stood) =
 module _ (workload : Workload) (answers : List Answer) (heaps : List HeapView) (segs : SegsView) (tables : List Table)
     (all : AllCameToTheirSeats workload answers heaps segs tables) where
   module _ (who other : ℕ) (below : who < workload.participants) (there : other < workload.participants) where
-    mine : SeatView
+    abbrev pub mine : SeatView
     mine = (its_seat workload answers heaps segs tables all who below).0
 
-    its : SeatView
+    abbrev pub its : SeatView
     its = (its_seat workload answers heaps segs tables all other there).0
+
+    -- what it looked up of the other
+    pub looked_up : (place lines : ℕ) (looked : HasLooked who place other lines (all.courses who) mine.mine)
+        → IsAwaited (history_at heaps) mine.mine its.mine looked.awaited
+    looked_up place lines looked =
+        let one = its_seat workload answers heaps segs tables all who below in
+        let two = its_seat workload answers heaps segs tables all other there in
+        let came_two = came workload answers heaps segs tables all other there in
+        let noted = all.noted mine its (at_a_place all.seats who mine one.1) (at_a_place all.seats other its two.1) in
+        noted.awaited looked.awaited
+        (subst (λ (n : ℕ). Contains mine.mine.awaited (n, looked.awaited)) (sym came_two.whose) looked.there)
 
     stands : (place lines heap : ℕ) (view : HeapView) → slice_get heaps heap ≡ Some view
         → HasLooked who place other lines (all.courses who) mine.mine
@@ -155,16 +166,11 @@ module _ (workload : Workload) (answers : List Answer) (heaps : List HeapView) (
         (length (calls_in (trace_of (take place (all.courses who)))))
     stands place lines heap view at looked =
         let low : heap < MAX_HEAPS = omega (arith, slice_get_within heaps heap view at, all.closed.heaps_are.count) in
-        let one = its_seat workload answers heaps segs tables all who below in
         let two = its_seat workload answers heaps segs tables all other there in
         let came_one = came workload answers heaps segs tables all who below in
         let came_two = came workload answers heaps segs tables all other there in
-        let among = at_a_place all.seats who mine one.1 in
         let its_among = at_a_place all.seats other its two.1 in
-        let noted = all.noted mine its among its_among in
-        let is : IsAwaited (history_at heaps) mine.mine its.mine looked.awaited =
-        noted.awaited looked.awaited
-        (subst (λ (n : ℕ). Contains mine.mine.awaited (n, looked.awaited)) (sym came_two.whose) looked.there) in
+        let is = looked_up place lines looked in
         let before : StandsBefore heap (history_at heaps heap) mine.mine its.mine is.mark looked.awaited =
         is.before heap (omega (arith, low)) in
         let history : history_at heaps heap ≡ view.history =

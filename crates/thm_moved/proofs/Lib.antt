@@ -1,4 +1,3 @@
-pub mod AgreedAtEnd
 pub mod AwaitedAtBoard
 pub mod CameToBoard
 pub mod ClosedHeaps
@@ -12,8 +11,7 @@ pub mod MovesAlone
 pub mod MovesHeld
 pub mod MovesWithin
 pub mod NamesAtBoard
-pub mod NamesChain
-pub mod NamesChanged
+pub mod NamesAwaited
 pub mod NamesHeld
 pub mod NamesLeftAtBoard
 pub mod NamesOfWays

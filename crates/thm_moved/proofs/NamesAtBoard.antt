@@ -6,7 +6,6 @@ use Rattle.std.proofs.lemmas.Bool.{cases_lt, cond-true}
 use Rattle.hp_board.proofs.KeptAt.{names_kept}
 use Rattle.hp_board.specs.Closing.{HandedOut, IsLeftIn, handed_out}
 use Rattle.hp_board.specs.MovesKept.{OpensWith, all_free}
-use Rattle.hp_board.specs.Views.{values_of}
 use Rattle.hp_board.specs.declared.opening.Opening.{Opening}
 use Rattle.hp_hall.specs.declared.kept.Kept.{Kept}
 use Rattle.hp_hall.specs.declared.kept.Kept.TheVariants.{Names}
@@ -24,10 +23,11 @@ use Rattle.hp_proc.specs.LinesDone.{Course, trace_of}
 use Rattle.hp_proc.specs.SharedNames.{SharedNames, no_changes}
 use Rattle.thm_run.specs.SoFar.{first_names}
 use Rattle.thm_moved.proofs.CameToBoard.{came_by, went}
-use Rattle.thm_moved.proofs.NamesChain.{AreOnward, GivesLater, HoldOnward, lines_onward, onward_handed, own_onward}
-use Rattle.thm_moved.proofs.NamesChanged.{changes_are_made}
+use Rattle.thm_run.proofs.NamesEnd.LinesHeld.{held_in}
+use Rattle.thm_run.proofs.NamesEnd.NamesChain.{AreOnward, GivesLater, HoldOnward, lines_onward, onward_handed, own_onward}
+use Rattle.thm_run.proofs.NamesEnd.NamesChanged.{changes_are_made}
 use Rattle.thm_moved.proofs.NamesHeld.{GoesOn, names_by, names_held_from_free, names_stay}
-use Rattle.thm_moved.proofs.NamesOfWays.{AreHoldsOf, held_in, shared_hold, way_holds}
+use Rattle.thm_moved.proofs.NamesOfWays.{AreHoldsOf, shared_hold, way_holds}
 use Rattle.thm_moved.specs.AtBoard.{AllCameToTheirSeats}
 use Rattle.thm_moved.specs.NamesLeft.{NamesChangedAtBoard, NamesHandedAtBoard}
 

@@ -1,5 +1,5 @@
 -- At a closed board the names that are handed out agree with the heaps, with external memory, and with the tables that participants leave.
-use Rattle.std.proofs.Common.{◌≡◌, ◌∙◌, ◌==◌, ℕ, ◌<◌, List, Contains, filter, map, Some, refl, ap, sym, subst, arith}
+use Rattle.std.proofs.Common.{◌≡◌, ◌∙◌, ◌==◌, ℕ, ◌<◌, List, [], ◌∷◌, Contains, filter, map, Some, refl, ap, sym, subst, arith}
 use Rattle.std.specs.List.{All, slice_get}
 use Rattle.std.specs.List.Sorted.{IsPermutation}
 use Rattle.std.proofs.lemmas.Option.{slice_get_within}
@@ -24,17 +24,17 @@ use Rattle.hp_segs.specs.SegsView.{SegsView}
 use Rattle.hp_segs.specs.SoundPlaces.{IsRange}
 use Rattle.hp_segs.specs.declared.external_range.ExternalRange.{ExternalRange}
 use Rattle.hp_serve.specs.Tied.{HasChunks}
-use Rattle.hp_zone.specs.Directory.{PlainDirectory, heap_at}
+use Rattle.hp_zone.specs.Directory.{HasSocketHeaps, PlainDirectory, directory_at, heap_at}
 use Rattle.hp_zone.specs.declared.heap_name.HeapRange.{HeapRange}
 use Rattle.hp_zone.specs.declared.names.Names.{Names as NamesView}
 use Rattle.hp_zone.specs.declared.zone.Zone.{Zone}
 use Rattle.hp_proc.specs.Handing.{shared_of}
 use Rattle.hp_proc.specs.Heaps.{sockets_of}
-use Rattle.hp_proc.specs.NamesAtEnd.{AreElementsOf, AreZonesOf, IsDirectoryOf}
+use Rattle.hp_proc.specs.NamesAtEnd.{AreClaimsOf, AreElementsOf, AreZonesOf, IsDirectoryOf}
 use Rattle.hp_proc.specs.RunEnds.{HasAttached}
 use Rattle.hp_proc.specs.SharedNames.{directory_in, zones_in}
 use Rattle.thm_run.proofs.HallFacts.HallHeaps.{all_from_places}
-use Rattle.thm_moved.proofs.AgreedAtEnd.{all_claimed, all_known, all_marked, directory_is, lists_are, names_are, naming_at}
+use Rattle.thm_run.proofs.NamesEnd.AgreedAtEnd.{all_claimed, all_known, all_marked, claims_are, directory_is, lists_are, names_are, naming_at}
 use Rattle.thm_moved.proofs.CameToBoard.{its_seat}
 use Rattle.thm_moved.proofs.ClosedHeaps.{at_a_place}
 use Rattle.thm_moved.specs.AtBoard.{AllCameToTheirSeats}
@@ -70,6 +70,16 @@ module _ (workload : Workload) (answers : List Answer) (heaps : List HeapView) (
     claimed = all_from_places (λ (heap : HeapView). AreClaimed segs.ranges heap.plain.chunks) heaps
         (all_claimed all.names heaps segs.ranges all.closed.heaps_are.count all.left.agreed);
   }
+
+  claimed : AreClaimsOf heaps segs.ranges
+  claimed = claims_are all.names heaps segs.ranges all.closed.heaps_are.count all.left.agreed
+
+  -- each socket has its heap, whatever changes there were so far
+  socket_heaps : (front : ℕ) → HasSocketHeaps (sockets_of workload.pools.items)
+      (directory_at (sockets_of workload.pools.items) (shared_of all.names).heaps front)
+  socket_heaps =
+      subst (λ (numbers : List ℕ). (front : ℕ) → HasSocketHeaps numbers (directory_at numbers all.names.heaps.log front)) sockets
+      all.left.directory.fronts
 
   elements : (index : ℕ) (heap : HeapView) → slice_get heaps index ≡ Some heap → AreElementsOf (shared_of all.names) index heap.plain
   elements index heap there =
@@ -125,5 +135,7 @@ names_left_at_board workload answers heaps segs tables all = record {
   count = all.closed.heaps_are.count;
   directory = directory workload answers heaps segs tables all;
   zones = zones workload answers heaps segs tables all;
+  claimed = claimed workload answers heaps segs tables all;
+  sockets = socket_heaps workload answers heaps segs tables all;
   attached = attached workload answers heaps segs tables all;
 }

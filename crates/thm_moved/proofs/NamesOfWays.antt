@@ -1,26 +1,24 @@
 -- The holds of the names among the steps of a participant's way are those that its lines read: each takes what a line was handed, and gives back
 -- what the line's changes leave of that.
-use Rattle.std.proofs.Common.{◌≡◌, ◌∙◌, ℕ, List, [], ◌∷◌, ◌++◌, append-nil, append_assoc, flat_map, map, Option, Some, None, refl, sym, ap, ap₂, subst}
-use Rattle.std.specs.List.{AllByRecursion, filter_map}
-use Rattle.std.specs.Prelude.{⊤}
+use Rattle.std.proofs.Common.{◌≡◌, ◌∙◌, ℕ, List, [], ◌∷◌, ◌++◌, append-nil, append_assoc, map, Option, Some, None, refl, sym, ap, ap₂, subst}
+use Rattle.std.specs.List.{AllByRecursion}
 use Rattle.std.proofs.lemmas.Grind.{flat_map-append}
-use Rattle.core.specs.List.{cons_option}
 use Rattle.hp_chair.specs.Steps.{moves_in}
 use Rattle.hp_hall.specs.Mail.{Fetches, Gives, MailStep, Notes, Posts, Takes}
 use Rattle.hp_hall.specs.declared.kept.Kept.TheVariants.{Heap, Names, Segments}
-use Rattle.hp_hall.specs.declared.slot.TheConstants.{NAMES_SLOT}
 use Rattle.hp_proc.specs.Doing.{Done}
 use Rattle.hp_proc.specs.Doing.Done.{NamesRead}
 use Rattle.hp_proc.specs.Handing.{shared_of}
 use Rattle.hp_proc.specs.LinesDone.{Course}
-use Rattle.hp_proc.specs.NamesLog.{change_made}
-use Rattle.hp_proc.specs.NamesOfLines.{NamesOfLine, names_after, names_read, step_of_names, steps_of_names}
+use Rattle.hp_proc.specs.NamesOfLines.{NamesOfLine, names_read, steps_of_names}
 use Rattle.hp_proc.specs.SharedNames.{SharedNames}
 use Rattle.hp_weave.specs.Holds.{Hold}
 use Rattle.hp_zone.specs.declared.names.Names.{Names as NamesView}
+use Rattle.thm_run.specs.Handing.{ReadsFirst}
 use Rattle.thm_run.specs.OwnLines.{AreOfNoHeap, WentByLines}
-use Rattle.thm_run.specs.Seats.{IsOfHeapOrNames, Seat}
+use Rattle.thm_run.specs.Seats.{Seat}
 use Rattle.thm_run.proofs.CountedReads.NewestRead.{all_both}
+use Rattle.thm_run.proofs.NamesEnd.LinesHeld.{held_for, held_in, unread_first}
 use Rattle.thm_moved.proofs.NamesHeld.{hold_given, names_by}
 
 -- WHAT LINES READ
@@ -29,30 +27,10 @@ use Rattle.thm_moved.proofs.NamesHeld.{hold_given, names_by}
 abbrev pub shared_hold : Hold NamesView → Hold SharedNames
 shared_hold hold = record { who = hold.who; taken = shared_of hold.taken; given = shared_of hold.given }
 
--- the hold of a line that read the names, first of all, and no more
-abbrev pub held_for : ℕ → List Done → List (Hold SharedNames)
-held_for who [] = []
-held_for who (NamesRead names ∷ rest) = record { who = who; taken = names; given = names_after names rest } ∷ []
-held_for who (_ ∷ rest) = []
-
-abbrev pub held_in : ℕ → List Course → List (Hold SharedNames)
-held_in who courses = flat_map (λ course. held_for who course.trace) courses
-
--- a trace reads names first of all and no more, or neither reads nor changes any
-abbrev pub ReadsFirst : List Done → Type 0
-ReadsFirst [] = ⊤
-ReadsFirst (NamesRead names ∷ rest) = names_read rest ≡ []
-ReadsFirst (done ∷ rest) = (names_read (done ∷ rest) ≡ []) × (filter_map change_made (done ∷ rest) ≡ [])
-
 unread_held : (who : ℕ) (trace : List Done) → names_read trace ≡ [] → held_for who trace ≡ []
 unread_held who [] none = refl
 unread_held who (NamesRead names ∷ rest) none = cc
 unread_held who (_ ∷ rest) none = refl
-
-unread_first : (trace : List Done) → names_read trace ≡ [] → filter_map change_made trace ≡ [] → ReadsFirst trace
-unread_first [] none unchanged = tt
-unread_first (NamesRead names ∷ rest) none unchanged = cc
-unread_first (_ ∷ rest) none unchanged = (none, unchanged)
 
 -- THE HOLDS OF STEPS
 
@@ -149,7 +127,7 @@ module _ (who : ℕ) where
   }
 
   -- steps beside a line take no names
-  none_of_names : (steps : List MailStep) → AreOfNoHeap steps → steps_of_names steps ≡ []
+  pub none_of_names : (steps : List MailStep) → AreOfNoHeap steps → steps_of_names steps ≡ []
   none_of_names [] none = refl
   none_of_names (Posts to frame action posted ∷ steps) none = none_of_names steps none.1
   none_of_names (Fetches frame ∷ steps) none = none_of_names steps none.1

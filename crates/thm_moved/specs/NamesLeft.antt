@@ -8,21 +8,26 @@ use Rattle.hp_maps.specs.declared.table.Table.{Table}
 use Rattle.hp_script.specs.declared.answer.Answer.{Answer}
 use Rattle.hp_script.specs.declared.workload.Workload.{Workload}
 use Rattle.hp_segs.specs.SegsView.{SegsView}
+use Rattle.hp_zone.specs.Directory.{HasSocketHeaps, directory_at}
 use Rattle.hp_proc.specs.Handed.{AreNamesHanded, names_shown}
 use Rattle.hp_proc.specs.Handing.{shared_of}
 use Rattle.hp_proc.specs.LinesDone.{trace_of}
-use Rattle.hp_proc.specs.NamesAtEnd.{AreZonesOf, IsDirectoryOf}
+use Rattle.hp_proc.specs.Heaps.{sockets_of}
+use Rattle.hp_proc.specs.NamesAtEnd.{AreClaimsOf, AreZonesOf, IsDirectoryOf}
 use Rattle.hp_proc.specs.NamesLog.{changes_in, changes_made}
 use Rattle.hp_proc.specs.RunEnds.{HasAttached}
 use Rattle.hp_proc.specs.SharedNames.{SharedNames, no_changes}
 use Rattle.thm_moved.specs.AtBoard.{AllCameToTheirSeats}
 
--- there are all heaps; the directory is that of their names and chunks, each of which is claimed; the memzones are those of their elements; and each
--- participant has attached exactly what has its mark
+-- there are all heaps; the directory is that of their names and chunks, the memzones are those of their elements, and the external memory of their
+-- chunks is what is claimed; each socket has its heap; and each participant has attached exactly what has its mark
 pub record AreLeftSo (workload : Workload) (names : SharedNames) (heaps : List HeapView) (segs : SegsView) (tables : List Table) : Type 0 where
   pub count : length heaps ≡ MAX_HEAPS
   pub directory : IsDirectoryOf workload names segs.ranges heaps
   pub zones : AreZonesOf names heaps
+  pub claimed : AreClaimsOf heaps segs.ranges
+  pub sockets : (front : ℕ) → HasSocketHeaps (sockets_of workload.pools.items)
+      (directory_at (sockets_of workload.pools.items) names.heaps front)
   pub attached : (who : ℕ) (table : Table) → slice_get tables who ≡ Some table → HasAttached heaps segs who table
 
 -- the names that each participant is handed in its lines are fronts of those that the board hands out, and never grow shorter from line to line

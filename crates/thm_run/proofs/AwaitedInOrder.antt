@@ -93,12 +93,12 @@ stands_after who calls (suc place) (one ∷ front) more entry below there its hi
     omega (arith, rest)
 
 -- the entries of lines are those of the first ones and those of the others
-record IsSplit (index : ℕ) (made : ℕ → ℕ) (earlier later : List Course) : Type 0 where
-  next : ℕ → ℕ
-  is : history_by index made (earlier ++ later) ≡ history_by index made earlier ++ history_by index next later
-  counts : (who : ℕ) → next who ≡ calls_made made who earlier
+pub record IsSplit (index : ℕ) (made : ℕ → ℕ) (earlier later : List Course) : Type 0 where
+  pub next : ℕ → ℕ
+  pub is : history_by index made (earlier ++ later) ≡ history_by index made earlier ++ history_by index next later
+  pub counts : (who : ℕ) → next who ≡ calls_made made who earlier
 
-split : (index : ℕ) (made : ℕ → ℕ) (earlier later : List Course) → IsSplit index made earlier later
+pub split : (index : ℕ) (made : ℕ → ℕ) (earlier later : List Course) → IsSplit index made earlier later
 split index made [] later = record { next = made; is = refl; counts = λ who. omega arith }
 split index made (course ∷ earlier) later =
     let by : ℕ = course.line.participant in
@@ -218,7 +218,7 @@ first_lines other lines earlier rest few =
     ap (take lines) (filter-append (λ (course : Course). course.line.participant == other) earlier rest)
     ∙ take-append-le lines (courses_of other earlier) (courses_of other rest) few
 
-trace_both : (courses more : List Course) → trace_of (courses ++ more) ≡ trace_of courses ++ trace_of more
+pub trace_both : (courses more : List Course) → trace_of (courses ++ more) ≡ trace_of courses ++ trace_of more
 trace_both [] more = refl
 trace_both (course ∷ courses) more =
     ap (λ (trace : List Done). course.trace ++ trace) (trace_both courses more)
@@ -239,6 +239,33 @@ few_calls n courses =
 -- WHAT STANDS FIRST
 
 module _ (participants : ℕ) (courses : List Course) (awaits : AwaitEarlier participants (map (λ course. course.line) courses)) where
+  -- the first calls of one, so many as were awaited, stand among what the lines before leave
+  module _ (who place other lines index : ℕ) (course : Course) (there : slice_get (courses_of who courses) place ≡ Some course)
+      (deed : course.line.act ≡ act.Await other lines) where
+    abbrev stood : IsOwnAt who courses place course
+    stood = own_at who courses place course there
+
+    pub stands_early : (early : ℕ) (entry : Entry) → slice_get (history_by index none_made courses) early ≡ Some entry
+        → entry.caller.participant ≡ other → entry.caller.number ≤ calls_within other lines courses
+        → early < length (history_by index none_made stood.earlier)
+    stands_early early entry early_at early_its few =
+        let rest : List Course = course ∷ stood.later in
+        let parts = split index none_made stood.earlier rest in
+        let front : List Entry = history_by index none_made stood.earlier in
+        let back : List Entry = history_by index parts.next rest in
+        let whole : history_by index none_made courses ≡ front ++ back = ap (history_by index none_made) stood.lines ∙ parts.is in
+        let enough = awaits_few participants courses stood.earlier course stood.later other lines awaits stood.lines deed in
+        let within : calls_within other lines courses ≤ parts.next other =
+        omega (
+          arith,
+          ap (λ (courses : List Course). length (calls_in (trace_of (take lines (courses_of other courses))))) stood.lines,
+          ap (λ (courses : List Course). length (calls_in (trace_of courses))) (first_lines other lines stood.earlier rest enough),
+          few_calls lines (courses_of other stood.earlier),
+          parts.counts other,
+        ) in
+        stands_before other (parts.next other) early front back entry (lines_above other index parts.next rest)
+        (subst (λ (entries : List Entry). slice_get entries early ≡ Some entry) whole early_at) early_its (omega (arith, few, within))
+
   stand_first : (who place other lines index : ℕ) (course : Course) → slice_get (courses_of who courses) place ≡ Some course
       → course.line.act ≡ act.Await other lines
       → StandBefore (history_by index none_made courses) other (calls_within other lines courses) who (calls_within who place courses)
@@ -249,20 +276,10 @@ module _ (participants : ℕ) (courses : List Course) (awaits : AwaitEarlier par
       let front : List Entry = history_by index none_made stood.earlier in
       let back : List Entry = history_by index parts.next rest in
       let whole : history_by index none_made courses ≡ front ++ back = ap (history_by index none_made) stood.lines ∙ parts.is in
-      let enough = awaits_few participants courses stood.earlier course stood.later other lines awaits stood.lines deed in
-      let within : calls_within other lines courses ≤ parts.next other =
-      omega (
-        arith,
-        ap (λ (courses : List Course). length (calls_in (trace_of (take lines (courses_of other courses))))) stood.lines,
-        ap (λ (courses : List Course). length (calls_in (trace_of courses))) (first_lines other lines stood.earlier rest enough),
-        few_calls lines (courses_of other stood.earlier),
-        parts.counts other,
-      ) in
       let behind : calls_within who place courses ≡ calls_made none_made who stood.earlier =
       omega (arith, ap (λ (courses : List Course). length (calls_in (trace_of courses))) stood.own) in
       let before : early < length front =
-      stands_before other (parts.next other) early front back entry (lines_above other index parts.next rest)
-      (subst (λ (entries : List Entry). slice_get entries early ≡ Some entry) whole early_at) early_its (omega (arith, few, within)) in
+      stands_early who place other lines index course there deed early entry early_at early_its few in
       let after : length front ≤ late =
       stands_after who (calls_made none_made who stood.earlier) late front back next (lines_below who index none_made stood.earlier)
       (subst (λ (entries : List Entry). slice_get entries late ≡ Some next) whole late_at) late_its (omega (arith, high, behind)) in

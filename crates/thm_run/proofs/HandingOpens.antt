@@ -3,7 +3,7 @@ use Rattle.std.proofs.Common.{◌≡◌, List, [], ◌∷◌, ◌++◌}
 use Rattle.std.proofs.lemmas.List.Elements.{All-nil}
 use Rattle.hp_proc.specs.LinesDone.{Course}
 use Rattle.hp_proc.specs.NamesAtEnd.{AreHandedTogether}
-use Rattle.thm_run.specs.Handing.{CountedOpen, JudgedOpen}
+use Rattle.thm_run.specs.Handing.{CountedOpen, JudgedOpen, ReadsFirst}
 
 no_moment : (earlier : List Course) (course : Course) (later : List Course) → [] ≡ earlier ++ course ∷ later → ⊥
 no_moment [] course later is = cc
@@ -17,6 +17,7 @@ judged_open workload segs = record {
 
 pub counted_open : CountedOpen
 counted_open workload = record {
+  reads = All-nil (λ (course : Course). ReadsFirst course.trace);
   handed = λ so_far who done moment. absurd (no_moment moment.earlier moment.course moment.later moment.lines);
   together = All-nil (AreHandedTogether workload.pools.items);
 }

@@ -36,6 +36,7 @@ pub mod NamesAlong
 pub mod NamesEnd
 pub mod SlotAlong
 pub mod Picked
+pub mod PickedFronts
 pub mod Registrations
 pub mod Rising
 pub mod ServesNoHeap

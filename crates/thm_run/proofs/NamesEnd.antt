@@ -1,2 +1,12 @@
 pub mod AgreedAtEnd
+pub mod AwaitedFor
+pub mod EndOfNames
+pub mod LinesHeld
+pub mod NamesChain
+pub mod NamesChanged
+pub mod NamesHome
+pub mod NamesInOrder
 pub mod NamesLeft
+pub mod NextCalls
+pub mod Reserved
+pub mod StatesHanded

@@ -24,7 +24,8 @@ use Rattle.thm_run.proofs.GrownHeaps.GrownLines.{calls_made, calls_next}
 use Rattle.thm_run.proofs.HallFacts.HallHeaps.{all_from_places, heap_at}
 use Rattle.thm_run.proofs.HallFacts.HallHistories.{in_order}
 use Rattle.thm_run.proofs.Rising.{rises_lower, seen_rising}
-use Rattle.thm_run.proofs.StatsFronts.{all_read, at, left, lines_rise, read_there}
+use Rattle.thm_run.proofs.PickedFronts.{at, left}
+use Rattle.thm_run.proofs.StatsFronts.{all_stats, read_there, stats_rise}
 use Rattle.thm_run.specs.Handing.{AreOfLinesBefore, StatisticsEndSo}
 
 -- an entry of a participant has a number above that
@@ -180,7 +181,7 @@ pub record IsDoneIn (who : ℕ) (courses : List Course) (before_it : List Done) 
   pub lines : courses ≡ before ++ course ∷ later
   pub trace : course.trace ≡ first ++ done ∷ rest
   pub its : course.line.participant ≡ who
-  pub long : length (calls_in before_it) ≡ length (calls_in (trace_of (courses_of who before))) + length (calls_in first)
+  pub front : before_it ≡ trace_of (courses_of who before) ++ first
 
 module _ (who : ℕ) (done : Done) where
   own_lines : (course : Course) (courses : List Course) → course.line.participant ≡ who
@@ -213,7 +214,7 @@ module _ (who : ℕ) (done : Done) where
         lines = ap (λ (courses : List Course). course ∷ courses) its.lines;
         trace = its.trace;
         its = its.its;
-        long = omega (arith, its.long, ap (λ (courses : List Course). length (calls_in (trace_of courses))) (other_lines course its.before beside));
+        front = its.front ∙ ap (λ (lines : List Course). trace_of lines ++ its.first) (sym (other_lines course its.before beside));
       })
       (cases_eq course.line.participant who)
     where
@@ -229,7 +230,7 @@ module _ (who : ℕ) (done : Done) where
         lines = refl;
         trace = its;
         its = own;
-        long = omega arith;
+        front = refl;
       }
       by_place deeper own (StandsIn.late mid front its) =
           let further = deeper mid rest its in
@@ -242,16 +243,10 @@ module _ (who : ℕ) (done : Done) where
             lines = ap (λ (courses : List Course). course ∷ courses) further.lines;
             trace = further.trace;
             its = further.its;
-            long = omega (
-              arith,
-              further.long,
-              ap (λ (first : List Done). length (calls_in first)) front,
-              ap length (calls_on course.trace mid),
-              length-append (calls_in course.trace) (calls_in mid),
-              ap (λ (courses : List Course). length (calls_in (trace_of courses))) (own_lines course further.before own),
-              ap length (calls_on course.trace (trace_of (courses_of who further.before))),
-              length-append (calls_in course.trace) (calls_in (trace_of (courses_of who further.before))),
-            );
+            front = front
+                ∙ ap (λ (mid : List Done). course.trace ++ mid) further.front
+                ∙ sym (append_assoc course.trace (trace_of (courses_of who further.before)) further.first)
+                ∙ ap (λ (lines : List Course). trace_of lines ++ further.first) (sym (own_lines course further.before own));
           }
 
 -- WHAT IS HANDED
@@ -315,21 +310,28 @@ module _ (workload : Workload) (courses : List Course) (heap : HeapView)
       let goes = goes_above index stood.course stood.later stood.first (StatsRead index counted ∷ stood.rest) stood.trace none_made stood.before in
       let front : List Entry = history_by index none_made (stood.before ++ at stood.course stood.first ∷ []) in
       let whole : heap.history ≡ front ++ goes.more = history ∙ ap (history_by index none_made) stood.lines ∙ goes.is in
+      let long : length (calls_in first) ≡ length (calls_in (trace_of (courses_of who stood.before))) + length (calls_in stood.first) =
+      omega (
+        arith,
+        ap (λ (trace : List Done). length (calls_in trace)) stood.front,
+        ap length (calls_on (trace_of (courses_of who stood.before)) stood.first),
+        length-append (calls_in (trace_of (courses_of who stood.before))) (calls_in stood.first),
+      ) in
       let read = read_there index workload courses are stood.before stood.course stood.later stood.first stood.rest counted stood.lines stood.trace
       in
       let below =
       stands_before who (length (calls_in (trace_of (courses_of who stood.before))) + length (calls_in stood.first)) place front goes.more entry
       (subst (λ (one : ℕ). AreAbove one (length (calls_in (trace_of (courses_of one stood.before))) + length (calls_in stood.first)) goes.more)
       stood.its (above_lower stood.course.line.participant _ _ goes.more (omega arith) goes.above))
-      (subst (λ (entries : List Entry). slice_get entries place ≡ Some entry) whole there) its (omega (arith, few, stood.long)) in
+      (subst (λ (entries : List Entry). slice_get entries place ≡ Some entry) whole there) its (omega (arith, few, long)) in
       omega (arith, below, ap (λ (counted : Counted). counted.entries) read)
 
   -- so they are handed
   pub stats_handed : (who : ℕ) → AreStatsHanded who (trace_of (courses_of who courses)) heap
   stats_handed who = record {
-    fronts = all_read index (AreStatisticsOf heap) courses front_read who [] courses refl;
+    fronts = all_stats index (AreStatisticsOf heap) courses front_read who;
     rising = (seen_rising (left index courses) _
-        (rises_lower 0 (left index []) (left index courses) _ (omega arith) (lines_rise index workload courses are who [] courses refl))).rising;
+        (rises_lower 0 (left index []) (left index courses) _ (omega arith) (stats_rise index workload courses are who))).rising;
     own = λ first counted comes. own_read who first counted comes;
   }
 

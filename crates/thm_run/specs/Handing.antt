@@ -1,5 +1,5 @@
 -- What a run leaves of what its lines registered, and what they were answered of statistics: the rules "Ending" and "Together" of docs/RUNS.md.
-use Rattle.std.specs.Prelude.{◌≡◌, ℕ, List, [], ◌∷◌, ◌++◌, length, map, Some, slice_get}
+use Rattle.std.specs.Prelude.{◌≡◌, ℕ, List, [], ◌∷◌, ◌++◌, filter_map, length, map, Some, slice_get, ⊤}
 use Rattle.std.specs.List.{All}
 use Rattle.hp_base.specs.Telling.{Listener}
 use Rattle.hp_base.specs.declared.limits.TheConstants.{MAX_HEAPS}
@@ -14,10 +14,13 @@ use Rattle.hp_script.specs.declared.workload.Workload.{Workload}
 use Rattle.hp_segs.specs.SegsView.{SegsView}
 use Rattle.hp_serve.specs.Party.{Party}
 use Rattle.hp_proc.specs.Doing.{Done}
+use Rattle.hp_proc.specs.Doing.Done.{NamesRead}
 use Rattle.hp_proc.specs.Handed.{AreStatsHanded}
 use Rattle.hp_proc.specs.Handing.{shared_of}
 use Rattle.hp_proc.specs.LinesDone.{Course, courses_of, opening_standing, trace_of}
 use Rattle.hp_proc.specs.NamesAtEnd.{AreHandedTogether}
+use Rattle.hp_proc.specs.NamesLog.{change_made}
+use Rattle.hp_proc.specs.NamesOfLines.{names_read}
 use Rattle.hp_proc.specs.OneThread.{AreHandedInOrder, IsLeftBy, IsMoment, WasAllowed, WasDenied}
 use Rattle.hp_proc.specs.RunEnds.{EndsWithNames}
 use Rattle.hp_proc.specs.WatchedBytes.{AreWatchersOf, IsRegisteredWithGrants}
@@ -57,9 +60,16 @@ pub record AreJudged (workload : Workload) (courses : List Course) (segs : SegsV
   pub denied : (so_far : List Course) (who : ℕ) (done : Done) → IsMoment courses so_far who done
       → WasDenied workload segs so_far who done
 
--- and what a line was handed of names, of an external heap and of statistics is what the lines before it leave; names and a heap's state that
--- a line is handed together agree
+-- a trace reads names first of all and no more, or neither reads nor changes any
+abbrev pub ReadsFirst : List Done → Type 0
+ReadsFirst [] = ⊤
+ReadsFirst (NamesRead names ∷ rest) = names_read rest ≡ []
+ReadsFirst (done ∷ rest) = (names_read (done ∷ rest) ≡ []) × (filter_map change_made (done ∷ rest) ≡ [])
+
+-- and what a line was handed of names, of an external heap and of statistics is what the lines before it leave; it was handed the names first;
+-- and they agree with a heap's state that it was handed next
 pub record AreOfLinesBefore (workload : Workload) (courses : List Course) : Type 0 where
+  pub reads : All (λ course. ReadsFirst course.trace) courses
   pub handed : (so_far : List Course) (who : ℕ) (done : Done) → IsMoment courses so_far who done → IsLeftBy workload so_far done
   pub together : All (AreHandedTogether workload.pools.items) courses
 

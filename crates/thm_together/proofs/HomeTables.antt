@@ -1,11 +1,11 @@
 -- The table that a participant leaves who came home.
-use Rattle.std.proofs.Common.{◌≡◌, ◌∙◌, ℕ, ◌<◌, ◌≤◌, Bool, true, false, List, [], ◌∷◌, length, get_or, refl, ap, sym, subst, arith}
+use Rattle.std.proofs.Common.{◌≡◌, ◌∙◌, ℕ, ◌<◌, ◌≤◌, Bool, true, false, List, [], ◌∷◌, length, get_or, refl, sym, subst, arith}
 use Rattle.std.specs.Prelude.{Contains}
 use Rattle.hp_base.specs.declared.chunk.Chunk.{Chunk}
 use Rattle.hp_base.specs.declared.row.Row.{Row}
 use Rattle.hp_hall.proofs.StandingFacts.StandingLists.{found_in}
 use Rattle.hp_maps.specs.Catching.{Lags}
-use Rattle.hp_heap.proofs.AllocFacts.ChoiceLaw.{Contains-none}
+use Rattle.hp_heap.proofs.AllocFacts.ChoiceLaw.{Contains-here, Contains-none}
 use Rattle.hp_maps.specs.MapsView.{chunk_rows, table_in}
 use Rattle.hp_maps.specs.declared.table.Table.{Table}
 use Rattle.hp_script.specs.declared.workload.Workload.{Workload}
@@ -27,7 +27,7 @@ use Rattle.thm_together.specs.CameHome.{LeavesItsTable}
 none_marked : (marked : ℕ → List Chunk) (rows : List Row) → HasChunks marked rows → ((heap : ℕ) → marked heap ≡ []) → rows ≡ []
 none_marked marked [] has none = refl
 none_marked marked (row ∷ rows) has none =
-    let one = has.only row (0, (omega arith, refl)) in
+    let one = has.only row (Contains-here row rows) in
     absurd (Contains-none one.1 (subst (λ (chunks : List Chunk). Contains chunks one.1) (none one.0) one.3))
 
 module _ (workload : Workload) (who : ℕ) (segs : SegsView) (sound : IsSound segs) (last : Seat) (courses : List Course) (table : Table)

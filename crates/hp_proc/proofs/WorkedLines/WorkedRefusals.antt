@@ -168,5 +168,5 @@ older rest = record {
 }
 
 an_older_state : AreHandedTogether pools (older []) → ⊥
-unfolding directory.socket_name external.external_heap
+unfolding directory.socket_name
 an_older_state agree = let called = (agree filled 1 [] [] refl).called in cc

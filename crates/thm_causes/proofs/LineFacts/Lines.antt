@@ -1,24 +1,31 @@
 -- What a participant does of its line leads from a quiet world to a quiet one, in which it owes word of a run, or not: it walks over all
 -- that it did.
-use Rattle.std.proofs.Common.{◌≡◌, ◌≢◌, ◌∙◌, ℕ, ◌≤◌, ◌<◌, ◌^◌, Bool, true, false, ◌||◌, List, [], ◌∷◌, ◌++◌, length, count_by, Option, inl, inr, refl, sym, ap, subst, arith}
+use Rattle.std.proofs.Common.{◌≡◌, ◌≢◌, ◌∙◌, ℕ, ◌≤◌, ◌<◌, ◌^◌, Bool, true, false, ◌||◌, List, [], ◌∷◌, ◌++◌, length, count_by, None, Ok, Option, inl, inr, refl, sym, ap, subst, arith}
 use Rattle.std.specs.List.{list_any}
 use Rattle.std.proofs.lemmas.Bool.{cases_Bool}
 use Rattle.std.proofs.lemmas.List.Folds.{list_any-append}
 use Rattle.std.proofs.lemmas.Option.{slice_get_within}
 use Rattle.hp_proc.specs.Denying.{denials_of}
 use Rattle.hp_base.specs.declared.caught.Caught.{Caught}
-use Rattle.hp_hall.specs.Mail.{MailStep, Notes}
+use Rattle.hp_hall.specs.Mail.{Gives, MailStep, Notes, Takes}
+use Rattle.hp_hall.specs.declared.kept.Kept.TheVariants.{Names}
 use Rattle.hp_hall.specs.declared.note.Note.TheVariants.{Emptied, LoadedDone, Stored}
+use Rattle.hp_hall.specs.declared.slot.TheConstants.{NAMES_SLOT}
+use Rattle.hp_heap.specs.declared.entry.HeapAnswer.TheVariants as gives
+use Rattle.hp_heap.specs.declared.entry.HeapCall.TheVariants as call
 use Rattle.hp_log.proofs.Counts.{any_counts, count_append}
 use Rattle.hp_log.specs.declared.log_record.LogRecord.{LogRecord}
+use Rattle.hp_base.specs.declared.map_answer.MapAnswer.{MapAnswer}
+use Rattle.hp_maps.specs.Chunks.{rows_of_chunk}
 use Rattle.hp_maps.specs.MapsView.{MapsView, calls_of}
 use Rattle.hp_segs.proofs.SlotFacts.ListFacts.{or_off_parts}
 use Rattle.hp_segs.specs.LaterSteps.{after_leave}
+use Rattle.hp_segs.specs.Ranges.{after_claim_range, after_release_range, range_plan}
 use Rattle.hp_segs.specs.SegsView.{is_member}
 use Rattle.hp_proc.specs.Acting.{Acts}
 use Rattle.hp_serve.specs.Attaching.{Attaches, after_attaching}
 use Rattle.hp_proc.specs.Doing.{Done}
-use Rattle.hp_proc.specs.Doing.Done.{Asked, GaveUp, NamesRead, StatsRead}
+use Rattle.hp_proc.specs.Doing.Done.{Asked, Called, ChunkMapped, GaveUp, HeapSeen, NamesChanged, NamesRead, RangePlanned, StatsRead}
 use Rattle.hp_proc.specs.Handing.{counted_in, shared_of}
 use Rattle.hp_serve.specs.Party.{Party}
 use Rattle.hp_proc.specs.ParticipantView.{ParticipantView, watched_after}
@@ -31,15 +38,17 @@ use Rattle.hp_solo.specs.Sequence.{Sequence}
 use Rattle.hp_solo.specs.Solo.{SoloView}
 use Rattle.thm_causes.specs.RoundTrip.{IsSetting, Setting, RunState}
 use Rattle.thm_causes.specs.Quiet.{IsQuietOwing, IsQuietState}
+use Rattle.hp_proc.specs.SharedNames.NamesChange.{OfHeaps}
+use Rattle.hp_zone.specs.declared.name_change.NameChange.TheVariants.{Range, RangeGone}
 use Rattle.thm_causes.specs.Lines.{ActsInQuiet, AreWaitsQuiet, AttachesOnce, Owes, is_looked}
 use Rattle.thm_causes.specs.Shared.{MakesAll}
 use Rattle.thm_causes.specs.Waits.{LeadsTo}
 use Rattle.thm_causes.specs.RunStates.{AreCalls, IsRunStateOf}
 use Rattle.thm_causes.proofs.LineFacts.LinesCarried.{acts_timed, clock_rises}
-use Rattle.thm_causes.proofs.LineFacts.LinesOwn.{HasSameTable, HasTried, attaches, calls_rise, cuts, leaves, stays}
+use Rattle.thm_causes.proofs.LineFacts.LinesOwn.{HasSameTable, HasTried, attaches, calls_rise, chunk_calls, cuts, leaves, moves_ranges, stays}
 use Rattle.thm_causes.proofs.LineFacts.LinesQuiet.{IsAsBefore}
 use Rattle.thm_causes.proofs.LineFacts.LinesRoster.{hall_out, out_stays, world_out}
-use Rattle.thm_causes.proofs.Owing.OwesAlong.{owes_both, owes_cut, owes_no_more, owes_once, owes_still, owes_tried}
+use Rattle.thm_causes.proofs.Owing.OwesAlong.{owes_as_before, owes_both, owes_cut, owes_no_more, owes_once, owes_still, owes_tried}
 use Rattle.thm_causes.proofs.TurnSteps.TurnsCalls.{acks_calls, calls_then}
 use Rattle.thm_causes.proofs.TurnSteps.TurnsSequence.{IsOwn, calls_own, cut_in}
 
@@ -151,7 +160,7 @@ module _ (quietly : AreWaitsQuiet) (set : Setting) (me : ℕ) (is_set : IsSettin
       knows_more hall hall party (watched_after deed given party) leads.world [] leads.its owes owes leads.holds refl (Sequence.stands hall) tt
       (λ own. own.along.made)
       (record { me = refl; deadline = refl; plan = refl; core = refl; asked = refl; sent = refl; calls = omega arith })
-      (record { joined = refl; maps = refl })
+      (record { joined = refl; number = refl })
 
   -- nor does it change anything of that to tell of its line
   pub tells_line : (old new : SoloView) (party : Party) (owes : Bool) (found lines : ℕ)
@@ -162,7 +171,7 @@ module _ (quietly : AreWaitsQuiet) (set : Setting) (me : ℕ) (is_set : IsSettin
       sequence (tt, (tt, tt))
       (λ own. own.along.made.2.2 ∙ (own.along.made.2.1 ∙ own.along.made.1))
       (record { me = refl; deadline = refl; plan = refl; core = refl; asked = refl; sent = refl; calls = omega arith })
-      (record { joined = refl; maps = refl })
+      (record { joined = refl; number = refl })
 
   -- while it is out, what it does but for an attach leaves it out
   still_out : (hand last : Option ℕ) (held : List ℕ) (old between : SoloView) (doer mid : ParticipantView) (world : RunState)
@@ -190,7 +199,7 @@ module _ (quietly : AreWaitsQuiet) (set : Setting) (me : ℕ) (is_set : IsSettin
   walks _ _ _ doer after trace steps (Acts.nothing _ _) old new world its owes left owing early sequence once pays =
       knows_more old new doer.party doer.party world [] its owes left owing (owes_still owes left pays) sequence tt (λ own. own.along.made)
       (record { me = refl; deadline = refl; plan = refl; core = refl; asked = refl; sent = refl; calls = omega arith })
-      (record { joined = refl; maps = refl })
+      (record { joined = refl; number = refl })
   walks _ _ _ doer _ trace steps (Acts.waits_turn until _ after moved _ turned) old new world its owes left owing early sequence once pays =
       left_as left owes new after (owes_still owes left pays)
       (quietly.turns quietly.known (denials_of doer.context.standing) set until me owes old new doer.party after moved steps world is_set
@@ -198,27 +207,27 @@ module _ (quietly : AreWaitsQuiet) (set : Setting) (me : ℕ) (is_set : IsSettin
       (not_above world.shared.clock old.plain.clock new.plain.clock (2 ^ 62) its.shared.clock
       (clock_rises me steps old new sequence
       (acts_timed set.count _ _ _ doer _ [] steps (Acts.waits_turn until doer after moved steps turned))) early) sequence turned)
-  walks _ _ _ doer after trace steps (Acts.takes_heap _ heap pen) old new world its owes left owing early sequence once pays =
+  walks _ _ _ doer after trace steps (Acts.takes_heap _ heap pen few) old new world its owes left owing early sequence once pays =
       knows_more old new doer.party doer.party world steps its owes left owing (owes_still owes left pays) sequence (tt, tt)
       (λ own. own.along.made.2 ∙ own.along.made.1)
       (record { me = refl; deadline = refl; plan = refl; core = refl; asked = refl; sent = refl; calls = omega arith })
-      (record { joined = refl; maps = refl })
+      (record { joined = refl; number = refl })
   walks _ _ _ doer after trace steps (Acts.gives_heap _ heap pen) old new world its owes left owing early sequence once pays =
       knows_more old new doer.party doer.party world steps its owes left owing (owes_still owes left pays) sequence (tt, (tt, tt))
       (λ own. own.along.made.2.2 ∙ (own.along.made.2.1 ∙ own.along.made.1))
       (record { me = refl; deadline = refl; plan = refl; core = refl; asked = refl; sent = refl; calls = omega arith })
-      (record { joined = refl; maps = refl })
-  walks _ _ _ doer after trace steps (Acts.makes_call _ heap call answer none) old new world its owes left owing early sequence once pays =
-      knows_more old new doer.party after.party world [] its owes left owing (owes_no_more owes left heap call answer none pays) sequence tt
+      (record { joined = refl; number = refl })
+  walks _ _ _ doer after trace steps (Acts.makes_call _ heap step answer none) old new world its owes left owing early sequence once pays =
+      knows_more old new doer.party after.party world [] its owes left owing (owes_no_more owes left heap step answer none pays) sequence tt
       (λ own. own.along.made)
       (record { me = refl; deadline = refl; plan = refl; core = refl; asked = refl; sent = refl; calls = omega arith })
-      (record { joined = refl; maps = refl })
+      (record { joined = refl; number = refl })
   walks _ _ _ doer after trace steps (Acts.cuts_run _ heap addr run taken) old new world its owes left owing early sequence once pays =
       let own = own_calls old new doer.party world steps its sequence (tt, (tt, tt)) in
       left_as left true new after.party (owes_cut owes left heap addr run pays)
       (cuts set me old new doer.party after.party world its owes owing own.servers own.along.order
       (record { me = refl; deadline = refl; plan = refl; core = refl; asked = refl; sent = refl; calls = omega arith }) own.along.at
-      own.along.shared heap run taken own.along.made (record { joined = refl; maps = refl }))
+      own.along.shared heap run taken own.along.made (record { joined = refl; number = refl }))
   walks _ _ _ doer _ trace steps (Acts.asks_pages _ after asked run _ does) old new world its owes left owing early sequence once pays =
       let does_so = owes_once owes left (Asked asked run) pays in
       left_as left false new after (does_so.left_is ∙ does_so.may)
@@ -248,7 +257,7 @@ module _ (quietly : AreWaitsQuiet) (set : Setting) (me : ℕ) (is_set : IsSettin
       world.shared own.along.at)
       (owing.quiet.base.places me doer.party its.own).me own.along.made)
       (out_before doer.party _ _ refl once) (tried_so doer.party mid taken.log ended tries))
-  walks _ _ _ doer after trace steps (Acts.detaches _ taken told secondary heard) old new world its owes left owing early sequence once pays =
+  walks _ _ _ doer after trace steps (Acts.detaches _ taken told secondary none bare heard) old new world its owes left owing early sequence once pays =
       let own = own_calls old new doer.party world steps its sequence (tt, (tt, (tt, tt))) in
       left_as left owes new after.party (owes_still owes left pays)
       (leaves set me old new doer.party after.party world its owes owing own.servers own.along.order
@@ -260,24 +269,122 @@ module _ (quietly : AreWaitsQuiet) (set : Setting) (me : ℕ) (is_set : IsSettin
   walks _ _ _ doer after trace steps (Acts.notes_left _ elements) old new world its owes left owing early sequence once pays =
       knows_more old new doer.party after.party world [] its owes left owing (owes_still owes left pays) sequence tt (λ own. own.along.made)
       (record { me = refl; deadline = refl; plan = refl; core = refl; asked = refl; sent = refl; calls = omega arith })
-      (record { joined = refl; maps = refl })
+      (record { joined = refl; number = refl })
   walks _ _ _ doer after trace steps (Acts.reads_names _ names) old new world its owes left owing early sequence once pays =
       knows_more old new doer.party after.party world steps its owes left owing
       ((owes_once owes left (NamesRead (shared_of names)) pays).left_is) sequence (tt, (tt, tt))
       (λ own. own.along.made.2.2 ∙ (own.along.made.2.1 ∙ own.along.made.1))
       (record { me = refl; deadline = refl; plan = refl; core = refl; asked = refl; sent = refl; calls = omega arith })
-      (record { joined = refl; maps = refl })
+      (record { joined = refl; number = refl })
   walks _ _ _ doer after trace steps (Acts.looks_up_lines _ other lines) old new world its owes left owing early sequence once pays =
       knows_more old new doer.party doer.party world steps its owes left owing (owes_still owes left pays) sequence (tt, tt)
       (λ own. own.along.made.2 ∙ own.along.made.1)
       (record { me = refl; deadline = refl; plan = refl; core = refl; asked = refl; sent = refl; calls = omega arith })
-      (record { joined = refl; maps = refl })
+      (record { joined = refl; number = refl })
   walks _ _ _ doer after trace steps (Acts.reads_stats _ heap pair) old new world its owes left owing early sequence once pays =
       knows_more old new doer.party after.party world steps its owes left owing
       ((owes_once owes left (StatsRead heap (counted_in pair)) pays).left_is) sequence (tt, tt)
       (λ own. own.along.made.2 ∙ own.along.made.1)
       (record { me = refl; deadline = refl; plan = refl; core = refl; asked = refl; sent = refl; calls = omega arith })
-      (record { joined = refl; maps = refl })
+      (record { joined = refl; number = refl })
+  walks _ _ _ doer after trace steps (Acts.changes_names _ _ change) old new world its owes left owing early sequence once pays =
+      knows_more old new doer.party doer.party world [] its owes left owing (owes_as_before owes left (NamesChanged change ∷ []) (tt, tt) pays) sequence
+      tt (λ own. own.along.made)
+      (record { me = refl; deadline = refl; plan = refl; core = refl; asked = refl; sent = refl; calls = omega arith })
+      (record { joined = refl; number = refl })
+  walks _ _ _ doer after trace steps (Acts.holds_names held _ _ taken given shown made inner changes) old new world its owes left owing early
+      sequence once pays =
+      let giving : List MailStep = Gives NAMES_SLOT (Names given) ∷ [] in
+      let first = cut_in me old new steps (Takes NAMES_SLOT (Names taken) ∷ []) (made ++ giving) refl sequence in
+      let takes =
+      knows_more old first.mid doer.party doer.party world (Takes NAMES_SLOT (Names taken) ∷ []) its owes owes owing refl first.begins (tt, tt)
+      (λ own. own.along.made.2 ∙ own.along.made.1)
+      (record { me = refl; deadline = refl; plan = refl; core = refl; asked = refl; sent = refl; calls = omega arith })
+      (record { joined = refl; number = refl }) in
+      let last = cut_in me first.mid new (made ++ giving) made giving refl first.ends in
+      let both = owes_both owes left (NamesRead (shared_of taken) ∷ []) shown pays in
+      let paid : Owes owes shown left =
+      subst (λ (owes : Bool). Owes owes shown left) (owes_as_before owes both.mid (NamesRead (shared_of taken) ∷ []) (tt, tt) both.begins) both.ends in
+      let goes =
+      walks None None held doer after shown made inner first.mid last.mid takes.world takes.its owes left takes.holds
+      (not_above last.mid.plain.clock last.mid.plain.clock new.plain.clock (2 ^ 62) refl
+      (clock_rises me giving last.mid new last.ends (tt, tt)) early) last.begins
+      (rest_once doer.party doer.party (NamesRead (shared_of taken) ∷ []) shown once (λ out nothing. out)) paid in
+      knows_more last.mid new after.party after.party goes.world giving goes.its left left goes.holds refl last.ends (tt, tt)
+      (λ own. own.along.made.2 ∙ own.along.made.1)
+      (record { me = refl; deadline = refl; plan = refl; core = refl; asked = refl; sent = refl; calls = omega arith })
+      (record { joined = refl; number = refl })
+  walks _ _ _ doer after trace steps (Acts.sees_heap _ heap pen few) old new world its owes left owing early sequence once pays =
+      knows_more old new doer.party doer.party world steps its owes left owing
+      (owes_as_before owes left (HeapSeen heap.plain.index heap.history ∷ []) (tt, tt) pays) sequence (tt, tt)
+      (λ own. own.along.made.2 ∙ own.along.made.1)
+      (record { me = refl; deadline = refl; plan = refl; core = refl; asked = refl; sent = refl; calls = omega arith })
+      (record { joined = refl; number = refl })
+  walks _ _ _ doer after trace steps (Acts.looks_at_segs _ heap taken) old new world its owes left owing early sequence once pays =
+      let own = own_calls old new doer.party world steps its sequence (tt, (tt, tt)) in
+      left_as left owes new doer.party (owes_still owes left pays)
+      (moves_ranges set me old new doer.party doer.party world its owes owing own.servers own.along.order
+      (record { me = refl; deadline = refl; plan = refl; core = refl; asked = refl; sent = refl; calls = omega arith }) own.along.at
+      own.along.shared taken taken own.along.made refl refl refl refl refl (record { joined = refl; number = refl }))
+  walks _ _ _ doer after trace steps (Acts.plans_range _ heap addr len page taken) old new world its owes left owing early sequence once pays =
+      let own = own_calls old new doer.party world steps its sequence (tt, (tt, tt)) in
+      left_as left owes new doer.party
+      (owes_as_before owes left (RangePlanned addr len page (range_plan addr len page taken) ∷ []) (tt, tt) pays)
+      (moves_ranges set me old new doer.party doer.party world its owes owing own.servers own.along.order
+      (record { me = refl; deadline = refl; plan = refl; core = refl; asked = refl; sent = refl; calls = omega arith }) own.along.at
+      own.along.shared taken taken own.along.made refl refl refl refl refl (record { joined = refl; number = refl }))
+  walks _ _ _ doer after trace steps (Acts.claims _ heap chunk taken plan) old new world its owes left owing early sequence once pays =
+      let own = own_calls old new doer.party world steps its sequence (tt, (tt, tt)) in
+      left_as left owes new after.party
+      (owes_as_before owes left
+      (RangePlanned chunk.addr chunk.len chunk.page (Ok chunk.list) ∷ NamesChanged (OfHeaps (Range heap chunk.addr chunk.len chunk.page))
+      ∷ Called heap (call.Chunk chunk) gives.Done ∷ []) (tt, (tt, (refl, tt))) pays)
+      (moves_ranges set me old new doer.party after.party world its owes owing own.servers own.along.order
+      (record { me = refl; deadline = refl; plan = refl; core = refl; asked = refl; sent = refl; calls = omega arith }) own.along.at
+      own.along.shared taken (after_claim_range chunk.list chunk.addr chunk.len chunk.page chunk.socket taken) own.along.made refl refl refl refl
+      refl (record { joined = refl; number = refl }))
+  walks _ _ _ doer after trace steps (Acts.releases _ heap chunk taken) old new world its owes left owing early sequence once pays =
+      let own = own_calls old new doer.party world steps its sequence (tt, (tt, tt)) in
+      left_as left owes new after.party
+      (owes_as_before owes left
+      (NamesChanged (OfHeaps (RangeGone heap chunk.addr)) ∷ Called heap (call.Unchunk chunk.addr chunk.len) gives.Done ∷ []) (tt, (refl, tt)) pays)
+      (moves_ranges set me old new doer.party after.party world its owes owing own.servers own.along.order
+      (record { me = refl; deadline = refl; plan = refl; core = refl; asked = refl; sent = refl; calls = omega arith }) own.along.at
+      own.along.shared taken (after_release_range chunk.list taken) own.along.made refl refl refl refl refl
+      (record { joined = refl; number = refl }))
+  walks _ _ _ doer after trace steps (Acts.maps_chunk _ heap chunk maps ended did) old new world its owes left owing early sequence once pays =
+      knows_more old new doer.party after.party world [] its owes left owing (owes_as_before owes left (ChunkMapped chunk ended ∷ []) (tt, tt) pays)
+      sequence tt (λ own. own.along.made)
+      (record {
+        me = refl;
+        deadline = refl;
+        plan = refl;
+        core = refl;
+        asked = refl;
+        sent = refl;
+        calls = chunk_calls (rows_of_chunk chunk) doer.party.maps maps ended did.answered;
+      })
+      (record { joined = refl; number = did.others.number })
+  walks _ _ _ doer after trace steps (Acts.shares _ heap chunk same) old new world its owes left owing early sequence once pays =
+      knows_more old new doer.party after.party world [] its owes left owing
+      (owes_as_before owes left (Called heap (call.Share chunk.addr chunk.len) gives.Done ∷ []) (refl, tt) pays) sequence tt
+      (λ own. own.along.made)
+      (record { me = refl; deadline = refl; plan = refl; core = refl; asked = refl; sent = refl; calls = omega arith })
+      (record { joined = refl; number = refl })
+  walks _ _ _ doer after trace steps (Acts.leaves _ heap chunk maps did) old new world its owes left owing early sequence once pays =
+      knows_more old new doer.party after.party world [] its owes left owing
+      (owes_as_before owes left (Called heap (call.Unshare chunk.addr chunk.len) gives.Done ∷ []) (refl, tt) pays) sequence tt
+      (λ own. own.along.made)
+      (record {
+        me = refl;
+        deadline = refl;
+        plan = refl;
+        core = refl;
+        asked = refl;
+        sent = refl;
+        calls = let same = ap (λ (answers : List MapAnswer). length answers) did.answers in omega (arith, same);
+      })
+      (record { joined = refl; number = did.others.number })
   walks _ _ _ doer after _ steps (Acts.and_then hand between last held more _ mid _ first rest before behind here next) old new world its
       owes left owing early sequence once pays =
       let cut = cut_in me old new steps before behind refl sequence in

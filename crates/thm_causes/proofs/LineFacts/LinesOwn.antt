@@ -1,17 +1,21 @@
 -- What one that is away does by itself leads from a quiet world to a quiet one: it changes what it knows, cuts a run, attaches or detaches.
-use Rattle.std.proofs.Common.{◌≡◌, ◌∙◌, ℕ, ◌-◌, ◌≤◌, ◌<◌, Bool, true, false, List, [], ◌∷◌, ◌++◌, length, Option, Some, None, refl, sym, ap, subst, arith}
+use Rattle.std.proofs.Common.{◌≡◌, ◌∙◌, ℕ, ◌-◌, ◌≤◌, ◌<◌, Bool, true, false, List, [], ◌∷◌, ◌++◌, length, length-append, map, take, Option, Some, None, refl, sym, ap, subst, arith}
 use Rattle.std.specs.Prelude.{slice_get, slice_index_or, slice_set}
 use Rattle.std.specs.Option.{option_and_then}
 use Rattle.std.proofs.lemmas.List.Elements.{All-contains}
 use Rattle.std.proofs.lemmas.Option.{slice_get_within}
-use Rattle.hp_base.specs.Mapping.{is_done}
+use Rattle.hp_base.specs.Mapping.{is_done, own_place}
 use Rattle.hp_base.specs.declared.caught.Caught.{Caught}
 use Rattle.hp_base.specs.declared.caught.Caught.TheVariants as caught
+use Rattle.hp_base.specs.declared.map_answer.MapAnswer.{MapAnswer}
+use Rattle.hp_base.specs.declared.map_answer.MapAnswer.TheVariants as map_answer
+use Rattle.hp_base.specs.declared.row.Row.{Row}
 use Rattle.hp_base.specs.declared.row.Run.{Run}
 use Rattle.hp_segs.specs.Standing.{IsArmed}
 use Rattle.hp_hall.specs.Mail.{MailStep, Notes}
 use Rattle.hp_hall.specs.declared.note.Note.TheVariants.{Emptied}
 use Rattle.hp_log.specs.declared.log_record.LogRecord.{LogRecord}
+use Rattle.hp_maps.specs.Catching.{HasAnswered, HasFailed}
 use Rattle.hp_maps.specs.MapsView.{MapsView, calls_of}
 use Rattle.hp_segs.specs.LaterSteps.{after_leave}
 use Rattle.hp_segs.specs.SegsView.{SegsView, added_run, granted_by, is_member}
@@ -79,10 +83,27 @@ pub calls_rise : (log : List LogRecord) (old new : MapsView) (ended : Caught) �
     → calls_of old ≤ calls_of (table_left ended new)
 calls_rise log old new ended is = omega (arith, calls_end log old new ended (ends_so log old new ended is), calls_left ended new)
 
--- a participant has the table that it had, or has none as before
+failed_more : (fresh : List Row) (old new : List MapAnswer) (row : Row) (call : ℕ) (got : MapAnswer) → HasFailed fresh old new row call got
+    → length old ≤ length new
+failed_more fresh old new row call got failed =
+    omega (
+      arith,
+      ap (λ (answers : List MapAnswer). length answers) failed.answered,
+      length-append (old ++ map own_place (take failed.place fresh)) (got ∷ []),
+      length-append old (map own_place (take failed.place fresh)),
+    )
+
+-- nor are those for a chunk
+pub chunk_calls : (fresh : List Row) (old new : MapsView) (ended : Caught) → HasAnswered fresh old.answers new.answers ended
+    → calls_of old ≤ calls_of new
+chunk_calls fresh old new caught.Done is = omega (arith, ap (λ (answers : List MapAnswer). length answers) is, length-append old.answers (map own_place fresh))
+chunk_calls fresh old new (caught.Refused row call) is = failed_more fresh old.answers new.answers row call map_answer.Refused is
+chunk_calls fresh old new (caught.Elsewhere row call got) is = failed_more fresh old.answers new.answers row call got is.0
+
+-- a participant has a table that has taken in as much, or has none as before
 pub record HasSameTable (old new : Party) : Type 0 where
   pub joined : new.joined ≡ old.joined
-  pub maps : new.maps ≡ old.maps
+  pub number : new.maps.number ≡ old.maps.number
 
 -- a participant came out of an attach that ended so
 pub record HasTried (log : List LogRecord) (ended : Caught) (old new : Party) : Type 0 where
@@ -126,7 +147,7 @@ module _ (set : Setting) (me : ℕ) (old new : SoloView) (party after : Party) (
       let place = quiet.base.places me party its.own in
       record {
         joined = ap (λ (roster : List Bool). is_member roster me) roster ∙ place.joined ∙ sym same.joined;
-        number = λ joined. ap (λ (maps : MapsView). maps.number) same.maps ∙ place.number (sym same.joined ∙ joined);
+        number = λ joined. same.number ∙ place.number (sym same.joined ∙ joined);
         within = omega (arith, place.within, ap length log);
         granted = λ joined. subst (AreGrantsWithin (number_of_party world me)) (sym asks) (place.granted (sym same.joined ∙ joined));
         level = λ nothing joined. quiet.level nothing me (place.joined ∙ sym same.joined ∙ joined) ∙ sym (ap length log);
@@ -168,6 +189,22 @@ module _ (set : Setting) (me : ℕ) (old new : SoloView) (party after : Party) (
       (shares_still segs refl refl refl refl (subst (λ (segs : SegsView). IsSound (after_retire heap run segs)) began.0 given.sound)
       (subst (λ (segs : SegsView). IsArmed (after_retire heap run segs)) began.0 (given.armed quiet.base.armed)))
       (known_still segs refl refl refl same) (λ nothing owes_nothing. cc)
+
+  -- it looked at the segment value, or moved external memory
+  pub moves_ranges : (at : Shared) → IsSharedIn new.plain at → (taken moved : SegsView)
+      → MakesAll me (takes_segments taken ∷ gives_segments moved ∷ []) world.shared at → moved.roster ≡ taken.roster → moved.log ≡ taken.log
+      → moved.asks ≡ taken.asks → moved.growth ≡ taken.growth → moved.retiring ≡ taken.retiring → HasSameTable party after → Leads owes
+  moves_ranges at shared taken moved made roster log asks growth retiring same =
+      let began = took me taken (gives_segments moved ∷ []) world.shared at made in
+      let given = gave me moved [] world.shared at began.1 in
+      let rosters : moved.roster ≡ world.shared.segs.roster = roster ∙ ap (λ (segs : SegsView). segs.roster) began.0 in
+      let logs : moved.log ≡ world.shared.segs.log = log ∙ ap (λ (segs : SegsView). segs.log) began.0 in
+      let outcomes : moved.asks ≡ world.shared.segs.asks = asks ∙ ap (λ (segs : SegsView). segs.asks) began.0 in
+      own_leads owes (with_segs moved world.shared) (subst (IsSharedIn new.plain) given.rest shared)
+      (shares_still moved rosters logs outcomes (growth ∙ ap (λ (segs : SegsView). segs.growth) began.0) given.sound
+      (given.armed quiet.base.armed))
+      (known_still moved rosters logs outcomes same)
+      (λ nothing owes_nothing. retiring ∙ ap (λ (segs : SegsView). segs.retiring) began.0 ∙ owing.gone nothing owes_nothing)
 
   -- it left the roster
   pub leaves : (at : Shared) → IsSharedIn new.plain at → me < 16 → (taken : SegsView)

@@ -235,7 +235,8 @@ module _ (count me : ℕ) (secondary : me ≢ 0) where
     posts = λ «to» frame action posted. tt;
     takes_heap = λ heap pen. tt;
     gives_heap = λ heap pen. tt;
-    names = λ names. tt;
+    takes_names = λ names. tt;
+    gives_names = λ names. tt;
     holds = λ taken given roster out. (ap (λ (roster : List Bool). is_member roster me) roster ∙ out, tt);
     leaves = λ who taken is out.
         (subst (λ (n : ℕ). is_member (slice_set taken.roster n false) me ≡ false) (sym is) (set_out taken.roster me), tt);

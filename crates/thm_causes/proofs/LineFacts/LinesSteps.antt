@@ -95,7 +95,8 @@ pub record HoldsOfSteps (count : ℕ) (Is : ℕ → Type 0) (May : Type 0) (Q : 
   pub posts : (to : ℕ) (frame : Frame) (action : Action) (posted : Posted) → Q (Posts to frame action posted ∷ [])
   pub takes_heap : (heap : HeapView) (pen : PenView) → Q (Takes heap.plain.index (Heap heap pen) ∷ [])
   pub gives_heap : (heap : HeapView) (pen : PenView) → Q (Gives heap.plain.index (Heap heap pen) ∷ [])
-  pub names : (names : NamesView) → Q (Takes NAMES_SLOT (Names names) ∷ Gives NAMES_SLOT (Names names) ∷ [])
+  pub takes_names : (names : NamesView) → Q (Takes NAMES_SLOT (Names names) ∷ [])
+  pub gives_names : (names : NamesView) → Q (Gives NAMES_SLOT (Names names) ∷ [])
   pub holds : (taken given : SegsView) → given.roster ≡ taken.roster → Q (takes_segments taken ∷ gives_segments given ∷ [])
   pub leaves : (who : ℕ) (taken : SegsView) → Is who → Q (takes_segments taken ∷ Notes Emptied ∷ gives_segments (after_leave who taken) ∷ [])
   pub attaches : (who : ℕ) (taken : SegsView) (ended : Caught) → May
@@ -258,7 +259,7 @@ module _ (count : ℕ) (Is : ℕ → Type 0) (May : Type 0) (Q : List MailStep �
   acts_are _ _ _ doer after trace steps (Acts.nothing _ _) may its = (along.none, its)
   acts_are _ _ _ doer _ trace steps (Acts.waits_turn until _ after moved _ turned) may its =
       turned_are (denials_of doer.context.standing) until doer.party after steps moved turned its
-  acts_are _ _ _ doer after trace steps (Acts.takes_heap _ heap pen) may its = (along.takes_heap heap pen, its)
+  acts_are _ _ _ doer after trace steps (Acts.takes_heap _ heap pen few) may its = (along.takes_heap heap pen, its)
   acts_are _ _ _ doer after trace steps (Acts.gives_heap _ heap pen) may its =
       let given : List MailStep = Gives heap.plain.index (Heap heap pen) ∷ [] in
       let told : Note = Published heap.plain.index (pair_of heap) in
@@ -271,9 +272,26 @@ module _ (count : ℕ) (Is : ℕ → Type 0) (May : Type 0) (Q : List MailStep �
       notifies_are (denials_of doer.context.standing) doer.party after heap run steps does its
   acts_are _ _ _ doer _ trace steps (Acts.attaches _ after taken ended tries) may its =
       (along.attaches doer.party.me taken ended (may refl), subst Is (sym (ap (λ (party : Party). party.me) tries.after_is)) its)
-  acts_are _ _ _ doer after trace steps (Acts.detaches _ taken told secondary heard) may its = (along.leaves doer.party.me taken its, its)
+  acts_are _ _ _ doer after trace steps (Acts.detaches _ taken told secondary left bare heard) may its =
+      (along.leaves doer.party.me taken its, its)
   acts_are _ _ _ doer after trace steps (Acts.notes_left _ elements) may its = (along.none, its)
-  acts_are _ _ _ doer after trace steps (Acts.reads_names _ names) may its = (along.names names, its)
+  acts_are _ _ _ doer after trace steps (Acts.reads_names _ names) may its =
+      (behind_one (Takes NAMES_SLOT (Names names)) (Gives NAMES_SLOT (Names names) ∷ []) (along.takes_names names) (along.gives_names names), its)
+  acts_are _ _ _ doer after trace steps (Acts.changes_names _ _ change) may its = (along.none, its)
+  acts_are _ _ _ doer after trace steps (Acts.holds_names held _ _ taken given shown made inner changes) may its =
+      let own = acts_are None None held doer after shown made inner may its in (
+        behind_one (Takes NAMES_SLOT (Names taken)) (made ++ Gives NAMES_SLOT (Names given) ∷ []) (along.takes_names taken)
+            (along.both made (Gives NAMES_SLOT (Names given) ∷ []) own.0 (along.gives_names given)),
+        own.1,
+      )
+  acts_are _ _ _ doer after trace steps (Acts.sees_heap _ heap pen few) may its = (along.takes_heap heap pen, its)
+  acts_are _ _ _ doer after trace steps (Acts.looks_at_segs _ heap taken) may its = (along.holds taken taken refl, its)
+  acts_are _ _ _ doer after trace steps (Acts.plans_range _ heap addr len page taken) may its = (along.holds taken taken refl, its)
+  acts_are _ _ _ doer after trace steps (Acts.claims _ heap chunk taken plan) may its = (along.holds taken _ refl, its)
+  acts_are _ _ _ doer after trace steps (Acts.releases _ heap chunk taken) may its = (along.holds taken _ refl, its)
+  acts_are _ _ _ doer after trace steps (Acts.maps_chunk _ heap chunk maps ended did) may its = (along.none, its)
+  acts_are _ _ _ doer after trace steps (Acts.shares _ heap chunk same) may its = (along.none, its)
+  acts_are _ _ _ doer after trace steps (Acts.leaves _ heap chunk maps did) may its = (along.none, its)
   acts_are _ _ _ doer after trace steps (Acts.looks_up_lines _ other lines) may its = (along.notes (LoadedDone other lines) tt, its)
   acts_are _ _ _ doer after trace steps (Acts.reads_stats _ heap pair) may its = (along.notes (ReadStats heap pair) tt, its)
   acts_are _ _ _ doer after trace steps (Acts.and_then hand between last held more _ mid _ first rest before behind here next) may its =

@@ -1,5 +1,7 @@
 -- Whether a participant owes word of a run that it gave up, along what it did.
 use Rattle.std.proofs.Common.{◌≡◌, ◌∙◌, ℕ, Bool, true, false, ◌||◌, List, [], ◌∷◌, ◌++◌, refl, ap}
+use Rattle.std.specs.List.{AllByRecursion}
+use Rattle.std.specs.Prelude.{⊤}
 use Rattle.std.proofs.Math.Bool.{or-false, or-true}
 use Rattle.hp_base.specs.declared.caught.Caught.{Caught}
 use Rattle.hp_base.specs.declared.row.Run.{Run}
@@ -8,7 +10,7 @@ use Rattle.hp_heap.specs.declared.entry.HeapAnswer.TheVariants as gives
 use Rattle.hp_heap.specs.declared.entry.HeapCall.{HeapCall}
 use Rattle.hp_heap.specs.declared.entry.HeapCall.TheVariants as call
 use Rattle.hp_proc.specs.Doing.{Done}
-use Rattle.hp_proc.specs.Doing.Done.{Called, CaughtUp, Looked}
+use Rattle.hp_proc.specs.Doing.Done.{Asked, Called, CaughtUp, GaveUp, Looked}
 use Rattle.hp_heap.specs.HistoryLaws.{run_cut}
 use Rattle.thm_causes.specs.Lines.{MayDoOwing, Owes, is_cut, owes_after}
 
@@ -63,3 +65,21 @@ pub owes_tried : (owes left : Bool) (records : ℕ) (ended : Caught) → Owes ow
     → left ≡ owes
 unfolding Owes
 owes_tried owes left records ended does = does.1.1
+
+-- nothing was done by which word of a run is owed, or for which none may be
+abbrev pub IsOweless : Done → Type 0
+IsOweless (Called heap call answer) = is_cut call answer ≡ false
+IsOweless (Asked asked run) = ⊥
+IsOweless (GaveUp heap run) = ⊥
+IsOweless _ = ⊤
+
+oweless : (owes : Bool) (done : Done) → IsOweless done → owes_after owes done ≡ owes
+oweless owes (Called heap call answer) is = ap (λ (cut : Bool). owes || cut) is ∙ or-false owes
+oweless owes (Asked asked run) is = absurd is
+oweless owes (GaveUp heap run) is = absurd is
+oweless owes _ is = refl
+
+pub owes_as_before : (owes left : Bool) (trace : List Done) → AllByRecursion IsOweless trace → Owes owes trace left → left ≡ owes
+unfolding Owes
+owes_as_before owes left [] all is = is
+owes_as_before owes left (done ∷ trace) all does = owes_as_before (owes_after owes done) left trace all.1 does.1 ∙ oweless owes done all.0

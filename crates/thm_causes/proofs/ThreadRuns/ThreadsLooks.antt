@@ -1,5 +1,5 @@
 -- Who is attached doesn't look at the segment value to attach, and another one looks once at most.
-use Rattle.std.proofs.Common.{◌≡◌, ◌≤◌, Bool, true, false, List, [], ◌∷◌, refl, arith}
+use Rattle.std.proofs.Common.{◌≡◌, ◌∙◌, ◌≤◌, Bool, true, false, List, [], ◌∷◌, refl, sym, arith}
 use Rattle.std.specs.List.{All, count_by}
 use Rattle.std.proofs.lemmas.List.Elements.{All-head, All-tail, All-weaker}
 use Rattle.std.proofs.lemmas.List.Folds.{list_any_none}
@@ -13,13 +13,12 @@ use Rattle.hp_proc.specs.Doing.Done.{CaughtUp, Looked}
 use Rattle.hp_proc.specs.Lines.{Facts}
 use Rattle.hp_serve.specs.Party.{Party}
 use Rattle.thm_run.proofs.SeenAndShown.Looks.{LineLooks, at_log, attach_looks, nowhere}
-use Rattle.thm_run.proofs.SeenAndShown.NoLooks.{IsNoLook, none_looked}
-use Rattle.thm_run.proofs.TracesTold.OrderlyLines.{MayLook}
+use Rattle.thm_run.proofs.SeenAndShown.NoLooks.{IsNoLook, LooksNowhere, none_looked}
 use Rattle.thm_causes.specs.Lines.{AttachesOnce, is_looked}
 
 -- no line of one that is attached looks
-attached_may : (does : Act) (attached : Bool) → attached ≡ true → MayLook false does attached
-attached_may act.Attach attached is = λ out. cc
+attached_may : (does : Act) (attached : Bool) → attached ≡ true → LooksNowhere does attached
+attached_may act.Attach attached is = λ out. (let wrong : true ≡ false = sym is ∙ out in cc)
 attached_may _ attached is = tt
 
 not_looked : (done : Done) → IsNoLook done → is_looked done ≡ false

@@ -2,11 +2,11 @@
 use Rattle.std.proofs.Common.{◌≡◌, ◌⊎◌, ◌∙◌, ℕ, ◌+◌, ◌<◌, List, [], ◌∷◌, ◌++◌, append-nil, arith, length, Option, Some, None, refl, ap, sym, subst, inl, inr, ⊎_elim}
 use Rattle.std.specs.List.{AllByRecursion}
 use Rattle.std.specs.Option.{option_map}
-use Rattle.std.specs.Prelude.{Contains, slice_get}
-use Rattle.hp_base.specs.declared.limits.TheConstants.{MAX_HEAPS}
+use Rattle.std.specs.Prelude.{slice_get}
+use Rattle.std.proofs.lemmas.List.Elements.{All-push}
 use Rattle.std.proofs.lemmas.Option.{same_Some, slice_get-map}
 use Rattle.hp_hall.specs.Mail.{MailStep, steps_of}
-use Rattle.hp_hall.specs.Values.{Fits, history_of}
+use Rattle.hp_hall.specs.Values.{history_of}
 use Rattle.hp_hall.specs.declared.kept.Kept.{Kept}
 use Rattle.hp_hall.specs.declared.kept.Kept.TheVariants.{Heap, Names, Segments}
 use Rattle.hp_heap.specs.History.{HeapView, replay}
@@ -14,7 +14,6 @@ use Rattle.hp_heap.specs.PlainHeap.{PlainHeap, opening_heap}
 use Rattle.hp_heap.specs.Statistics.{statistics_of}
 use Rattle.hp_heap.specs.declared.entry.Entry.{Entry}
 use Rattle.hp_base.specs.declared.stats.Stats.{Stats}
-use Rattle.hp_plain.proofs.Slotted.{value_at}
 use Rattle.hp_plain.specs.HallView.{HallView, IsHall, IsHome, SlotView, history_in, lines_at, newest_by, newest_of, slot_at}
 use Rattle.hp_plain.specs.Keeping.{values_in}
 use Rattle.hp_plain.specs.Told.{told_of}
@@ -27,6 +26,8 @@ use Rattle.hp_proc.specs.Handing.{counted_in}
 use Rattle.hp_proc.specs.Heaps.{sockets_of}
 use Rattle.hp_proc.specs.Histories.{entries_for}
 use Rattle.hp_proc.specs.LinesDone.{Course}
+use Rattle.hp_proc.specs.NamesAtEnd.{AreHandedTogether}
+use Rattle.hp_proc.specs.NamesOfLines.{NamesOfLine}
 use Rattle.hp_proc.specs.OneThread.{IsLeftBy, IsMoment, counted_by, names_by}
 use Rattle.hp_proc.specs.Progress.{HoldsNone}
 use Rattle.hp_proc.specs.SharedNames.{SharedNames}
@@ -38,22 +39,22 @@ use Rattle.hp_script.specs.declared.workload.Workload.{Workload}
 use Rattle.hp_serve.specs.Party.{Party}
 use Rattle.hp_stats.specs.declared.stat_pair.StatPair.{StatPair}
 use Rattle.thm_run.proofs.CountedReads.HandedNames.{read_first}
-use Rattle.thm_run.proofs.CountedReads.HeapsSeen.{acts_seen, among_at, seen_held}
+use Rattle.thm_run.proofs.CountedReads.HandedStates.{seen_left}
+use Rattle.thm_run.proofs.CountedReads.HandedTogether.{line_together}
 use Rattle.thm_run.proofs.CountedReads.HomeHeaps.{home_replay}
 use Rattle.thm_run.proofs.CountedReads.NewestRead.{IsBare, IsNoPair, IsReadOf, IsReadSo, PublishNothing, acts_bare, acts_read, all_at, all_both, all_read, all_split, first_nil, gives_publish}
 use Rattle.thm_run.proofs.CountedReads.ReadlessLines.{AsksNoStats, IsReadless, line_readless}
 use Rattle.thm_run.proofs.GrownHeaps.GrownLines.{calls_made, history_append}
 use Rattle.thm_run.proofs.HeapGivers.{GiveNoHeap}
 use Rattle.thm_run.proofs.JudgedGrowths.JudgedOn.{IsLastOrEarlier, last_or_earlier}
-use Rattle.thm_run.proofs.LineSteps.LineComes.{course_of, later, line_gives, names_left, slot_along, trace}
-use Rattle.thm_run.proofs.InTurnByHolds.HeldCalls.{none_for}
+use Rattle.thm_run.proofs.LineSteps.LineComes.{course_of, later, line_gives, names_left, trace}
 use Rattle.thm_run.proofs.NamesAlong.{names_more}
+use Rattle.thm_run.proofs.NamesEnd.LinesHeld.{unread_first}
 use Rattle.thm_run.proofs.PathSteps.WaysOn.{steps_done}
-use Rattle.thm_run.proofs.RunFacts.SoFarFacts.{IsAt, at_place, slots_so_far}
-use Rattle.thm_run.proofs.SlotAlong.{IsNoSegs, along_front}
-use Rattle.thm_run.proofs.StatsFronts.{at}
+use Rattle.thm_run.proofs.RunFacts.SoFarFacts.{slots_so_far}
+use Rattle.thm_run.proofs.PickedFronts.{at}
 use Rattle.thm_run.specs.EndLaws.{GoesBy, IsGiven, tells_one_more}
-use Rattle.thm_run.specs.Handing.{AreOfLinesBefore, CountedGoesOnByLine}
+use Rattle.thm_run.specs.Handing.{AreOfLinesBefore, CountedGoesOnByLine, ReadsFirst}
 use Rattle.thm_run.specs.SoFar.{SoFar}
 
 -- nothing was allocated in a heap that opens
@@ -239,60 +240,17 @@ module _ (workload : Workload) (courses : List Course) (parties behind : List Pa
       ∙ ap (λ (first : List Done). names_by (courses ++ at one first ∷ [])) (sym its.none)
       ∙ ap names_by (sym (until_then so_far who (NamesRead read) moment first_is course_is))
 
-  -- the state of a heap that it is handed
-  no_segs_at : (number : ℕ) (kept : Kept) → number < MAX_HEAPS → Fits number kept → IsNoSegs kept
-  no_segs_at number (Heap heap pen) few fits = tt
-  no_segs_at number (Segments segs) few fits = omega (arith, few, fits)
-  no_segs_at number (Names names) few fits = tt
-
-  nothing_in_hand : (heap : ℕ) → None ≡ Some heap → ⊥
-  nothing_in_hand heap is = cc
-
-  module _ (heap : ℕ) (history : List Entry) (first rest : List Done) (at_seen : its_trace ≡ first ++ HeapSeen heap history ∷ rest) where
-    took : Contains goes.does.does.held heap × (heap < MAX_HEAPS)
-    took =
-        seen_held workload.participants heap goes.does.does.does.acts history
-        (subst (λ (trace : List Done). Contains trace (HeapSeen heap history)) (sym at_seen) (among_at first (HeapSeen heap history) rest))
-
-    slot : IsAt old.slots heap
-    slot = at_place old.slots heap (omega (arith, took.1, is_hall.slots))
-
-    no_segs : IsNoSegs slot.it.kept
-    no_segs = no_segs_at heap slot.it.kept took.1 (is_hall.fits heap slot.it slot.there)
-
-    seen_is : (history ≡ history_of slot.it.kept) × ((own : OwnCall) → Contains (calls_in first) own → own.heap ≡ heap → ⊥)
-    seen_is =
-        let along =
-        slot_along workload courses parties behind old new line answer given so goes heap slot.it.kept (value_at old heap slot.it slot.there)
-        no_segs in
-        acts_seen workload.participants heap took.1 line.participant slot.it.kept no_segs goes.does.does.does.acts (nothing_in_hand heap)
-        goes.does.does.once along.last
-        (along_front heap line.participant goes.does.does.does.steps (tells_one_more line.participant (lines_at old line.participant))
-        slot.it.kept along.last (tt, tt) along.along)
-        first rest history at_seen
-
-    pub seen_left : history ≡ history_by heap none_made (courses ++ at one first ∷ [])
-    seen_left =
-        seen_is.0
-        ∙ ap history_in (sym slot.there)
-        ∙ so.in_order heap
-        ∙ sym
-        (history_append heap none_made courses (at one first)
-        ∙ ap (λ (entries : List Entry). history_by heap none_made courses ++ entries)
-        (none_for line.participant heap (calls_made none_made line.participant courses + 1) (calls_in first) seen_is.1)
-        ∙ append-nil (history_by heap none_made courses))
-
   last_handed : (so_far : List Course) (who : ℕ) (done : Done) (moment : IsMoment lines so_far who done) → moment.earlier ≡ courses
       → moment.course ≡ one → IsLeftBy workload so_far done
   last_handed so_far who (StatsRead heap counted) moment first_is course_is =
       last_read so_far who heap counted moment first_is course_is
   last_handed so_far who (NamesRead read) moment first_is course_is = last_names so_far who read moment first_is course_is
   last_handed so_far who (HeapSeen heap history) moment first_is course_is =
-      seen_left heap history moment.first moment.rest (at_done so_far who (HeapSeen heap history) moment first_is course_is)
+      seen_left workload courses parties behind old new line answer given is_hall so goes heap history moment.first moment.rest (at_done so_far who (HeapSeen heap history) moment first_is course_is)
       ∙ ap (history_by heap none_made) (sym (until_then so_far who (HeapSeen heap history) moment first_is course_is))
   last_handed so_far who _ moment first_is course_is = tt
 
-  pub handed_all : AreOfLinesBefore workload courses → (so_far : List Course) (who : ℕ) (done : Done) → IsMoment lines so_far who done
+  handed_all : AreOfLinesBefore workload courses → (so_far : List Course) (who : ℕ) (done : Done) → IsMoment lines so_far who done
       → IsLeftBy workload so_far done
   handed_all are so_far who done moment =
       by_place (last_or_earlier courses one moment.earlier moment.course moment.later moment.lines)
@@ -300,7 +258,7 @@ module _ (workload : Workload) (courses : List Course) (parties behind : List Pa
       by_place : IsLastOrEarlier courses one moment.earlier moment.course moment.later → IsLeftBy workload so_far done
       by_place (IsLastOrEarlier.last first_is course_is) = last_handed so_far who done moment first_is course_is
       by_place (IsLastOrEarlier.early more is) =
-          are so_far who done
+          are.handed so_far who done
           (record {
             earlier = moment.earlier;
             course = moment.course;
@@ -313,7 +271,20 @@ module _ (workload : Workload) (courses : List Course) (parties behind : List Pa
             until = moment.until;
           })
 
+  -- it is handed the names first
+  line_reads_first : (done : List Done) {steps : List MailStep} → NamesOfLine done steps → ReadsFirst done
+  line_reads_first done (NamesOfLine.none nothing unread unchanged) = unread_first done unread unchanged
+  line_reads_first done (NamesOfLine.once taken given rest two is unread changed) = subst ReadsFirst (sym is) unread
+
+  pub counted_all : AreOfLinesBefore workload courses → AreOfLinesBefore workload lines
+  counted_all are = record {
+    reads = All-push (λ (course : Course). ReadsFirst course.trace) courses one are.reads (line_reads_first its_trace goes.does.does.names);
+    handed = handed_all are;
+    together = All-push (AreHandedTogether workload.pools.items) courses one are.together
+        (line_together workload courses parties behind old new line answer given is_hall so goes);
+  }
+
 -- so it is after each line
 pub counted_goes_on : CountedGoesOnByLine
 counted_goes_on workload courses parties behind old new line answer given is_hall so goes are =
-    handed_all workload courses parties behind old new line answer given is_hall so goes are
+    counted_all workload courses parties behind old new line answer given is_hall so goes are

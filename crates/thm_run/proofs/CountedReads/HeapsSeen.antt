@@ -1,6 +1,6 @@
 -- The state of a heap that a line takes in its hand is the one that the heap's slot had when the line began, and the line had not called the heap
 -- before: it takes no heap twice.
-use Rattle.std.proofs.Common.{◌≡◌, ◌∙◌, ◌⊎◌, ℕ, ◌+◌, ◌<◌, ◌≤◌, ◌==◌, Bool, true, false, cond, List, [], ◌∷◌, ◌++◌, length, Option, Some, refl, ap, sym, subst, inl, inr, arith, eq-eqb}
+use Rattle.std.proofs.Common.{◌≡◌, ◌∙◌, ◌⊎◌, ℕ, ◌+◌, ◌<◌, ◌≤◌, ◌==◌, Bool, true, false, cond, List, [], ◌∷◌, ◌++◌, length, Ok, Option, Some, refl, ap, sym, subst, inl, inr, arith, eq-eqb}
 use Rattle.std.specs.List.{AllByRecursion}
 use Rattle.std.specs.Prelude.{⊤, Contains, count_by}
 use Rattle.std.proofs.lemmas.Bool.{eqb-true}
@@ -19,8 +19,13 @@ use Rattle.hp_proc.specs.Acting.{Acts}
 use Rattle.hp_proc.specs.Courses.{OwnCall, calls_in}
 use Rattle.hp_proc.specs.Denying.{denials_of}
 use Rattle.hp_proc.specs.Doing.{Done}
-use Rattle.hp_proc.specs.Doing.Done.{HeapSeen, NamesRead}
-use Rattle.hp_proc.specs.Handing.{shared_of}
+use Rattle.hp_proc.specs.Doing.Done.{Asked, Called, CaughtUp, ChunkMapped, GaveUp, HeapSeen, Looked, NamesChanged, NamesRead, RangePlanned, StatsRead}
+use Rattle.hp_proc.specs.Handing.{counted_in, shared_of}
+use Rattle.hp_proc.specs.SharedNames.NamesChange.{OfHeaps}
+use Rattle.hp_segs.specs.Ranges.{range_plan}
+use Rattle.hp_zone.specs.declared.name_change.NameChange.TheVariants.{Range, RangeGone}
+use Rattle.hp_heap.specs.declared.entry.HeapAnswer.TheVariants as gives
+use Rattle.hp_heap.specs.declared.entry.HeapCall.TheVariants as heap_call
 use Rattle.hp_proc.specs.ParticipantView.{ParticipantView}
 use Rattle.hp_proc.specs.Progress.{AreOnce}
 use Rattle.hp_serve.specs.Attaching.{after_attaching}
@@ -116,20 +121,20 @@ module _ (count index : ℕ) where
   seen_held (Acts.waits_turn until doer after moved steps turned) history among = absurd (Contains-none (HeapSeen index history) among)
   seen_held (Acts.takes_heap doer heap pen few) history among = absurd (Contains-none (HeapSeen index history) among)
   seen_held (Acts.gives_heap doer heap pen) history among = absurd (Contains-none (HeapSeen index history) among)
-  seen_held (Acts.makes_call doer heap call answer none) history among = absurd (all_of IsUnseen _ (HeapSeen index history) among (tt, tt))
-  seen_held (Acts.cuts_run doer heap addr run taken) history among = absurd (all_of IsUnseen _ (HeapSeen index history) among (tt, tt))
+  seen_held (Acts.makes_call doer heap call answer none) history among = absurd (all_of IsUnseen (Called heap call answer ∷ []) (HeapSeen index history) among (tt, tt))
+  seen_held (Acts.cuts_run doer heap addr run taken) history among = absurd (all_of IsUnseen (Called heap (heap_call.Cut addr) (gives.Pages run) ∷ []) (HeapSeen index history) among (tt, tt))
   seen_held (Acts.asks_pages doer after asked run steps does) history among =
-      absurd (all_of IsUnseen _ (HeapSeen index history) among (tt, tt))
+      absurd (all_of IsUnseen (Asked asked run ∷ []) (HeapSeen index history) among (tt, tt))
   seen_held (Acts.notifies_run doer after heap run steps does) history among =
-      absurd (all_of IsUnseen _ (HeapSeen index history) among (tt, tt))
+      absurd (all_of IsUnseen (GaveUp heap run ∷ []) (HeapSeen index history) among (tt, tt))
   seen_held (Acts.attaches doer after taken caught tried) history among =
-      absurd (all_of IsUnseen _ (HeapSeen index history) among (tt, (tt, tt)))
+      absurd (all_of IsUnseen (Looked (length taken.log) ∷ CaughtUp (length taken.log) caught ∷ []) (HeapSeen index history) among (tt, (tt, tt)))
   seen_held (Acts.detaches doer taken told above left bare heard) history among = absurd (Contains-none (HeapSeen index history) among)
   seen_held (Acts.notes_left doer elements) history among = absurd (Contains-none (HeapSeen index history) among)
-  seen_held (Acts.reads_names doer names) history among = absurd (all_of IsUnseen _ (HeapSeen index history) among (tt, tt))
+  seen_held (Acts.reads_names doer names) history among = absurd (all_of IsUnseen (NamesRead (shared_of names) ∷ []) (HeapSeen index history) among (tt, tt))
   seen_held (Acts.looks_up_lines doer other lines) history among = absurd (Contains-none (HeapSeen index history) among)
-  seen_held (Acts.reads_stats doer heap pair) history among = absurd (all_of IsUnseen _ (HeapSeen index history) among (tt, tt))
-  seen_held (Acts.changes_names hand doer change) history among = absurd (all_of IsUnseen _ (HeapSeen index history) among (tt, tt))
+  seen_held (Acts.reads_stats doer heap pair) history among = absurd (all_of IsUnseen (StatsRead heap (counted_in pair) ∷ []) (HeapSeen index history) among (tt, tt))
+  seen_held (Acts.changes_names hand doer change) history among = absurd (all_of IsUnseen (NamesChanged change ∷ []) (HeapSeen index history) among (tt, tt))
   seen_held (Acts.holds_names held doer after taken given trace steps inner changes) history among =
       elim (Contains-cases _ (HeapSeen index history) trace among) [
         | inl same ↦ cc
@@ -144,16 +149,17 @@ module _ (count index : ℕ) where
       ]
   seen_held (Acts.looks_at_segs doer heap taken) history among = absurd (Contains-none (HeapSeen index history) among)
   seen_held (Acts.plans_range doer heap addr len page taken) history among =
-      absurd (all_of IsUnseen _ (HeapSeen index history) among (tt, tt))
+      absurd (all_of IsUnseen (RangePlanned addr len page (range_plan addr len page taken) ∷ []) (HeapSeen index history) among (tt, tt))
   seen_held (Acts.claims doer heap chunk taken plan) history among =
-      absurd (all_of IsUnseen _ (HeapSeen index history) among (tt, (tt, (tt, tt))))
+      absurd (all_of IsUnseen (RangePlanned chunk.addr chunk.len chunk.page (Ok chunk.list) ∷ NamesChanged (OfHeaps (Range heap chunk.addr chunk.len chunk.page))
+          ∷ Called heap (heap_call.Chunk chunk) gives.Done ∷ []) (HeapSeen index history) among (tt, (tt, (tt, tt))))
   seen_held (Acts.releases doer heap chunk taken) history among =
-      absurd (all_of IsUnseen _ (HeapSeen index history) among (tt, (tt, tt)))
+      absurd (all_of IsUnseen (NamesChanged (OfHeaps (RangeGone heap chunk.addr)) ∷ Called heap (heap_call.Unchunk chunk.addr chunk.len) gives.Done ∷ []) (HeapSeen index history) among (tt, (tt, tt)))
   seen_held (Acts.maps_chunk doer heap chunk after ended did) history among =
-      absurd (all_of IsUnseen _ (HeapSeen index history) among (tt, tt))
-  seen_held (Acts.shares doer heap chunk same) history among = absurd (all_of IsUnseen _ (HeapSeen index history) among (tt, tt))
+      absurd (all_of IsUnseen (ChunkMapped chunk ended ∷ []) (HeapSeen index history) among (tt, tt))
+  seen_held (Acts.shares doer heap chunk same) history among = absurd (all_of IsUnseen (Called heap (heap_call.Share chunk.addr chunk.len) gives.Done ∷ []) (HeapSeen index history) among (tt, tt))
   seen_held (Acts.leaves doer heap chunk after did) history among =
-      absurd (all_of IsUnseen _ (HeapSeen index history) among (tt, tt))
+      absurd (all_of IsUnseen (Called heap (heap_call.Unshare chunk.addr chunk.len) gives.Done ∷ []) (HeapSeen index history) among (tt, tt))
   seen_held (Acts.and_then hand between last held more doer mid after first rest before behind one two) history among =
       elim (Contains-append_cases first rest (HeapSeen index history) among) [
         | inl early ↦
@@ -184,11 +190,11 @@ module _ (count index : ℕ) where
     acts_apart (Acts.notifies_run doer after heap run steps does) empty never =
         none_apart index steps (notice_none (denials_of doer.context.standing) count doer.party after heap run steps does)
     acts_apart (Acts.attaches doer after taken caught tried) empty never =
-        let gives : List MailStep = gives_segments (after_attaching doer.party.me caught taken) ∷ [] in
-        let steps : List MailStep = takes_segments taken ∷ (acks_after caught (length taken.log) ++ gives) in
-        let last : GiveNoHeap gives = (tt, tt) in
+        let giving : List MailStep = gives_segments (after_attaching doer.party.me caught taken) ∷ [] in
+        let steps : List MailStep = takes_segments taken ∷ (acks_after caught (length taken.log) ++ giving) in
+        let last : GiveNoHeap giving = (tt, tt) in
         let no_heap : GiveNoHeap steps =
-        (tt, none_both (acks_after caught (length taken.log)) gives (acks_none caught (length taken.log)) last) in
+        (tt, none_both (acks_after caught (length taken.log)) giving (acks_none caught (length taken.log)) last) in
         none_apart index steps no_heap
     acts_apart (Acts.detaches doer taken told above left bare heard) empty never = (tt, (tt, (tt, tt)))
     acts_apart (Acts.notes_left doer elements) empty never = tt
@@ -319,27 +325,27 @@ module _ (count index : ℕ) where
       acts_seen (Acts.gives_heap doer heap pen) empty once end along front back history at =
           unseen [] front back history at tt
       acts_seen (Acts.makes_call doer heap call answer none) empty once end along front back history at =
-          unseen _ front back history at (tt, tt)
+          unseen (Called heap call answer ∷ []) front back history at (tt, tt)
       acts_seen (Acts.cuts_run doer heap addr run taken) empty once end along front back history at =
-          unseen _ front back history at (tt, tt)
+          unseen (Called heap (heap_call.Cut addr) (gives.Pages run) ∷ []) front back history at (tt, tt)
       acts_seen (Acts.asks_pages doer after asked run steps does) empty once end along front back history at =
-          unseen _ front back history at (tt, tt)
+          unseen (Asked asked run ∷ []) front back history at (tt, tt)
       acts_seen (Acts.notifies_run doer after heap run steps does) empty once end along front back history at =
-          unseen _ front back history at (tt, tt)
+          unseen (GaveUp heap run ∷ []) front back history at (tt, tt)
       acts_seen (Acts.attaches doer after taken caught tried) empty once end along front back history at =
-          unseen _ front back history at (tt, (tt, tt))
+          unseen (Looked (length taken.log) ∷ CaughtUp (length taken.log) caught ∷ []) front back history at (tt, (tt, tt))
       acts_seen (Acts.detaches doer taken told above left bare heard) empty once end along front back history at =
           unseen [] front back history at tt
       acts_seen (Acts.notes_left doer elements) empty once end along front back history at =
           unseen [] front back history at tt
       acts_seen (Acts.reads_names doer names) empty once end along front back history at =
-          unseen _ front back history at (tt, tt)
+          unseen (NamesRead (shared_of names) ∷ []) front back history at (tt, tt)
       acts_seen (Acts.looks_up_lines doer other lines) empty once end along front back history at =
           unseen [] front back history at tt
       acts_seen (Acts.reads_stats doer heap pair) empty once end along front back history at =
-          unseen _ front back history at (tt, tt)
+          unseen (StatsRead heap (counted_in pair) ∷ []) front back history at (tt, tt)
       acts_seen (Acts.changes_names hand doer change) empty once end along front back history at =
-          unseen _ front back history at (tt, tt)
+          unseen (NamesChanged change ∷ []) front back history at (tt, tt)
       acts_seen (Acts.holds_names held doer after taken given trace steps inner changes) empty once end along front back history at =
           let parts = split_along kept steps (Gives NAMES_SLOT (Names given) ∷ []) end along.1 in
           named_seen (NamesRead (shared_of taken)) trace tt refl (acts_seen inner empty once parts.0 parts.1) front back history at
@@ -348,17 +354,18 @@ module _ (count index : ℕ) where
       acts_seen (Acts.looks_at_segs doer heap taken) empty once end along front back history at =
           unseen [] front back history at tt
       acts_seen (Acts.plans_range doer heap addr len page taken) empty once end along front back history at =
-          unseen _ front back history at (tt, tt)
+          unseen (RangePlanned addr len page (range_plan addr len page taken) ∷ []) front back history at (tt, tt)
       acts_seen (Acts.claims doer heap chunk taken plan) empty once end along front back history at =
-          unseen _ front back history at (tt, (tt, (tt, tt)))
+          unseen (RangePlanned chunk.addr chunk.len chunk.page (Ok chunk.list) ∷ NamesChanged (OfHeaps (Range heap chunk.addr chunk.len chunk.page))
+          ∷ Called heap (heap_call.Chunk chunk) gives.Done ∷ []) front back history at (tt, (tt, (tt, tt)))
       acts_seen (Acts.releases doer heap chunk taken) empty once end along front back history at =
-          unseen _ front back history at (tt, (tt, tt))
+          unseen (NamesChanged (OfHeaps (RangeGone heap chunk.addr)) ∷ Called heap (heap_call.Unchunk chunk.addr chunk.len) gives.Done ∷ []) front back history at (tt, (tt, tt))
       acts_seen (Acts.maps_chunk doer heap chunk after ended did) empty once end along front back history at =
-          unseen _ front back history at (tt, tt)
+          unseen (ChunkMapped chunk ended ∷ []) front back history at (tt, tt)
       acts_seen (Acts.shares doer heap chunk same) empty once end along front back history at =
-          unseen _ front back history at (tt, tt)
+          unseen (Called heap (heap_call.Share chunk.addr chunk.len) gives.Done ∷ []) front back history at (tt, tt)
       acts_seen (Acts.leaves doer heap chunk after did) empty once end along front back history at =
-          unseen _ front back history at (tt, tt)
+          unseen (Called heap (heap_call.Unshare chunk.addr chunk.len) gives.Done ∷ []) front back history at (tt, tt)
       acts_seen (Acts.and_then hand between last held more doer mid after first rest before behind one two) empty once end along front back history at =
           let parts = split_along kept before behind end along in
           seen_both first rest (acts_seen one empty (once_front held more once) parts.0 parts.1)
@@ -369,14 +376,14 @@ module _ (count index : ℕ) where
           (subst (λ (mid : Kept). AreAlong index who mid behind end) (still before parts.0 apart parts.1) parts.2))
           (λ history among own called is.
           let took = (seen_held two history among).0 in
-          in_hand took (by_call is (calls_held count one own called)))
+          in_hand took (by_call own is (calls_held count one own called)))
           front back history at
         where
           in_hand : Contains more index → (hand ≡ Some index) ⊎ Contains held index → ⊥
           in_hand took (inl was) = empty was
           in_hand took (inr early) = once_apart index held more once early took
 
-          by_call : {own : OwnCall} → own.heap ≡ index → (hand ≡ Some own.heap) ⊎ Contains held own.heap
+          by_call : (own : OwnCall) → own.heap ≡ index → (hand ≡ Some own.heap) ⊎ Contains held own.heap
               → (hand ≡ Some index) ⊎ Contains held index
-          by_call is (inl was) = inl (was ∙ ap Some is)
-          by_call is (inr early) = inr (subst (Contains held) is early)
+          by_call own is (inl was) = inl (was ∙ ap Some is)
+          by_call own is (inr early) = inr (subst (Contains held) is early)

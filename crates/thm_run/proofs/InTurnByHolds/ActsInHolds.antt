@@ -103,7 +103,7 @@ growths_acts {count} who (Acts.attaches doer after taken caught tried) more alon
     let gives : List MailStep = gives_segments (after_attaching doer.party.me caught taken) ∷ [] in
     growths_past who None (takes_segments taken ∷ (acks ++ gives)) more
     (of_no_heap (takes_segments taken ∷ (acks ++ gives)) (tt, none_both acks gives (acks_none caught (length taken.log)) (tt, tt))) along
-growths_acts who (Acts.detaches doer taken told above left bare heard) more along = along.1.1
+growths_acts who (Acts.detaches doer taken told above gone bare heard) more along = along.1.1
 growths_acts who (Acts.notes_left doer elements) more along = along
 growths_acts who (Acts.reads_names doer names) more along = along
 growths_acts who (Acts.looks_up_lines doer other lines) more along = along
@@ -238,8 +238,8 @@ module _ (count who : ℕ) (last : SegsView) where
         by_path number (Acts.attaches doer after taken caught tried) me deadline seat
         (none_of (Looked (length taken.log)) (CaughtUp (length taken.log) caught ∷ []) (λ asked got same. cc)
         (none_of (CaughtUp (length taken.log) caught) [] (λ asked got same. cc) none_at_all)) others from left was
-    acts_on number (Acts.detaches doer taken told above left bare heard) me deadline seat next exact answers more along others from left was =
-        by_path number (Acts.detaches doer taken told above left bare heard) me deadline seat none_at_all others from left was
+    acts_on number (Acts.detaches doer taken told above gone bare heard) me deadline seat next exact answers more along others from left was =
+        by_path number (Acts.detaches doer taken told above gone bare heard) me deadline seat none_at_all others from left was
     acts_on number (Acts.notes_left doer elements) me deadline seat next exact answers more along others from left was =
         by_path number (Acts.notes_left doer elements) me deadline seat none_at_all others from left was
     acts_on number (Acts.reads_names doer names) me deadline seat next exact answers more along others from left was =

@@ -20,7 +20,7 @@ use Rattle.hp_serve.specs.Asking.{Gives}
 use Rattle.hp_serve.specs.declared.pages_asked.PagesAsked.{PagesAsked}
 use Rattle.hp_proc.specs.Courses.{numbered_in}
 use Rattle.hp_proc.specs.Doing.{Done}
-use Rattle.hp_proc.specs.Doing.Done.{Asked, Called, CaughtUp, ChunkMapped, GaveUp, HeapSeen, Looked, NamesChanged, NamesRead, StatsRead}
+use Rattle.hp_proc.specs.Doing.Done.{Asked, Called, CaughtUp, ChunkMapped, GaveUp, HeapSeen, Looked, NamesChanged, NamesRead, RangePlanned, StatsRead}
 use Rattle.hp_proc.specs.Outcomes.{IsOfATrace, IsOutcomeOf}
 use Rattle.hp_weave.specs.Holds.{Chain, Hold, holds_of}
 use Rattle.thm_run.proofs.InTurnByHolds.AskedInHolds.{IsAnsweredIn, IsAskAt, two_on}
@@ -61,11 +61,13 @@ ask_of_trace log trace place (Granted generation) (NamesChanged change) shown th
 ask_of_trace log trace place (Granted generation) (HeapSeen heap history) shown there kind = absurd kind
 ask_of_trace log trace place (Granted generation) (ChunkMapped chunk caught) shown there kind = absurd kind
 ask_of_trace log trace place (Granted generation) (StatsRead heap counted) shown there kind = absurd kind
+ask_of_trace log trace place (Granted generation) (RangePlanned addr len page plan) shown there kind = absurd kind
 ask_of_trace log trace place (Refused cause) (NamesRead names) shown there kind = absurd kind
 ask_of_trace log trace place (Refused cause) (NamesChanged change) shown there kind = absurd kind
 ask_of_trace log trace place (Refused cause) (HeapSeen heap history) shown there kind = absurd kind
 ask_of_trace log trace place (Refused cause) (ChunkMapped chunk caught) shown there kind = absurd kind
 ask_of_trace log trace place (Refused cause) (StatsRead heap counted) shown there kind = absurd kind
+ask_of_trace log trace place (Refused cause) (RangePlanned addr len page plan) shown there kind = absurd kind
 
 pub gives_shown : (log : List LogRecord) (outcome : Outcome) (run : Option Run) → Gives log outcome run → is_grant_or_refusal outcome ≡ true
 gives_shown log (Granted generation) run gives = refl

@@ -48,7 +48,7 @@ use Rattle.thm_run.proofs.RunFacts.RunChanges.{runs_behind}
 use Rattle.thm_run.proofs.RunFacts.SoFarFacts.{begins_here, none_open_so_far, seats_many}
 use Rattle.thm_run.proofs.SeenAndShown.Provenance.{asked_counts, of_a_seat}
 use Rattle.thm_run.proofs.Settings.{may_fail_of, set_so}
-use Rattle.thm_run.proofs.StatsFronts.{at}
+use Rattle.thm_run.proofs.PickedFronts.{at}
 use Rattle.thm_run.proofs.TracesTold.Numbers.{numbered_both}
 use Rattle.thm_run.specs.EndLaws.{GoesBy, IsGiven}
 use Rattle.thm_run.specs.Handing.{AreJudged, JudgedGoesOnByLine}

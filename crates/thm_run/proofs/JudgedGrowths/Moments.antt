@@ -35,7 +35,7 @@ use Rattle.thm_run.proofs.HallFacts.HallSegs.{later_segs}
 use Rattle.thm_run.proofs.LineSteps.LineMore.{trace_more}
 use Rattle.thm_run.proofs.RunFacts.SoFarFacts.{all_asked, seat_of}
 use Rattle.thm_run.proofs.SeenAndShown.Provenance.{answered}
-use Rattle.thm_run.proofs.StatsFronts.{at}
+use Rattle.thm_run.proofs.PickedFronts.{at}
 use Rattle.thm_run.proofs.TracesTold.Numbers.{numbered_both}
 use Rattle.thm_run.specs.Handing.{AreJudged, JudgedRests}
 use Rattle.thm_run.specs.SoFar.{IsOfDeclared, SoFar, trace_for}

@@ -236,7 +236,8 @@ module _ (workload : Workload) (courses : List Course) (parties behind : List Pa
       let along = slot_along NAMES_SLOT (Names so.names) so.named tt in (
         along.last,
         line_leaves who so.names trace goes.does.does.does.steps along.last goes.does.does.names
-            (along_front NAMES_SLOT who goes.does.does.does.steps (tells_one_more who (lines_at old who)) (Names so.names) along.last (tt, tt)
+            (along_front NAMES_SLOT who goes.does.does.does.steps (tells_one_more who (lines_at old who)) (Names so.names) along.last
+            (tt, (tt, tt))
             along.along),
         along.keep,
       )

@@ -104,7 +104,7 @@ module _ (workload : Workload) (courses : List Course) (parties behind : List Pa
       shown.seen_goes_on workload.participants workload.absent workload.pools.items so.first so.now now so.is_first so.runs by before.it
       last.it did its_run courses (asks_of_each workload courses parties old so) so.seen workload
       (standing_after (opening_standing workload by) (courses_of by courses)) one refl refl (so.seats by before.it before.there).trace
-      goes.built (line_is_done workload courses parties behind old new line answer given so goes)
+      goes.may (line_is_done workload courses parties behind old new line answer given so goes)
 
   grown : (index : ℕ) → index < MAX_HEAPS
       → runs_grown (history_by index none_made lines) ≡ granted_runs index now.segs.asks 1 now.segs.log
@@ -188,7 +188,7 @@ module _ (workload : Workload) (courses : List Course) (parties behind : List Pa
       last.it did its_run courses (asks_of_each workload courses parties old so) so.seen
       (subst (λ (segs : SegsView). DropsComeFirst workload.participants segs.log segs.asks courses) (sym first_segs) drops) workload
       (standing_after (opening_standing workload by) (courses_of by courses)) one refl refl (so.seats by before.it before.there).trace
-      goes.built (line_is_done workload courses parties behind old new line answer given so goes) gone)
+      goes.may (line_is_done workload courses parties behind old new line answer given so goes) gone)
 
   pub shown_by_line : (was segs : SegsView) → segs_in (slot_at old MAX_HEAPS) ≡ Some was → segs_in (slot_at new MAX_HEAPS) ≡ Some segs
       → NoneComesLate courses was.asks segs.asks → AreShown was.log was.asks courses → AreShown segs.log segs.asks lines
@@ -201,7 +201,7 @@ module _ (workload : Workload) (courses : List Course) (parties behind : List Pa
       (subst (λ (segs : SegsView). NoneComesLate courses was.asks segs.asks) (sym (shown_there segs at)) late))
       (subst (λ (segs : SegsView). AreShown segs.log segs.asks courses) (sym first_segs) shown) workload
       (standing_after (opening_standing workload by) (courses_of by courses)) one refl refl (so.seats by before.it before.there).trace
-      goes.built (line_is_done workload courses parties behind old new line answer given so goes))
+      goes.may (line_is_done workload courses parties behind old new line answer given so goes))
 
 -- after a line all stands as before it
 pub so_far_line : GoesOnByLine

@@ -1,7 +1,7 @@
 -- Where names agree at the end with the heaps and with the claimed external memory, the directory is that of the heaps' names and chunks, the
 -- memzones are those of their elements, and each participant has attached exactly what has its mark.
-use Rattle.std.proofs.Common.{◌≡◌, ◌∙◌, ℕ, ◌+◌, ◌<◌, ◌≤◌, Bool, true, false, ◌&&◌, ◌==◌, cond, not, List, [], ◌∷◌, Contains, count_by, eqb, filter, nat_lt, None, length, map, Option, Some, refl, sym, ap, subst, arith}
-use Rattle.std.specs.List.{All, AllByRecursion, slice_get}
+use Rattle.std.proofs.Common.{◌≡◌, ◌∙◌, ℕ, ◌+◌, ◌<◌, ◌≤◌, Bool, true, false, ◌&&◌, ◌==◌, cond, not, List, [], ◌∷◌, ◌++◌, Contains, count_by, eqb, filter, flat_map, nat_lt, None, length, map, Option, Some, refl, sym, ap, ap₂, subst, arith}
+use Rattle.std.specs.List.{All, AllByRecursion, range_with_len, slice_get}
 use Rattle.std.specs.List.Sorted.{IsPermutation}
 use Rattle.std.specs.Option.{option_and_then, option_map_or}
 use Rattle.std.proofs.lemmas.Bool.{and_parts, cond_both, eqb-true}
@@ -19,7 +19,7 @@ use Rattle.hp_external.proofs.ListLemmas.{filter_none}
 use Rattle.hp_external.proofs.RowLemmas.{claimed_rows, own_rows}
 use Rattle.hp_external.specs.Tie.{AreClaimed, AreListed, AreMarked, IsMarked, IsOfClaim, claim_of, is_memory, is_range_of}
 use Rattle.hp_hall.proofs.ClaimedChunks.{agreed_claimed, chunk_named}
-use Rattle.hp_hall.specs.AgreedNames.{AreAgreedNames, IsNamedBy, directory_name, directory_range}
+use Rattle.hp_hall.specs.AgreedNames.{AreAgreedNames, IsNamedBy, chunk_memory, directory_name, directory_range}
 use Rattle.hp_hall.specs.Naming.{Naming, marked_by, naming_of, unmarked}
 use Rattle.hp_heap.proofs.HistoryFacts.Counting.{count_by-cons}
 use Rattle.hp_heap.proofs.AllocFacts.ChoiceLaw.{Contains-filter}
@@ -39,7 +39,7 @@ use Rattle.hp_plain.specs.Opening.{namings_of}
 use Rattle.hp_proc.proofs.ReleasedMemory.{one_heap}
 use Rattle.hp_proc.specs.Handing.{shared_of}
 use Rattle.hp_proc.specs.Heaps.{sockets_of}
-use Rattle.hp_proc.specs.NamesAtEnd.{called}
+use Rattle.hp_proc.specs.NamesAtEnd.{AreClaimsOf, called, chunks_at}
 use Rattle.hp_proc.specs.SharedNames.{directory_in}
 use Rattle.thm_run.proofs.PathSteps.Walked.{get_there}
 
@@ -60,11 +60,11 @@ count_both {X} p q (x ∷ xs) =
 
 -- THE HEAPS' NAMES AND CHUNKS
 
-called_is : (heap : PlainHeap) → directory_name (naming_of heap) ≡ called heap
+pub called_is : (heap : PlainHeap) → directory_name (naming_of heap) ≡ called heap
 unfolding naming_of
 called_is heap = refl
 
-chunks_are : (heap : PlainHeap) → (naming_of heap).chunks ≡ map unmarked heap.chunks
+pub chunks_are : (heap : PlainHeap) → (naming_of heap).chunks ≡ map unmarked heap.chunks
 unfolding naming_of
 chunks_are heap = refl
 
@@ -79,6 +79,15 @@ row_list chunk row has =
     Contains-filter (is_of_chunk chunk) (rows_of_chunk chunk) row (subst (λ (l : List Row). Contains l row) (sym (own_rows chunk)) has) in
     eqb-true row.list chunk.list (and_parts (eqb row.generation 0) (eqb row.list chunk.list) passes.0).1
 
+-- a chunk's memory is that of what names speak of
+memory_is : (chunks : List Chunk) → map claim_of chunks ≡ map chunk_memory (map unmarked chunks)
+memory_is [] = refl
+memory_is (chunk ∷ chunks) = ap (λ (rest : List ExternalRange). claim_of chunk ∷ rest) (memory_is chunks)
+
+flat_alike : (f g : ℕ → List ExternalRange) (xs : List ℕ) → ((x : ℕ) → f x ≡ g x) → flat_map f xs ≡ flat_map g xs
+flat_alike f g [] same = refl
+flat_alike f g (x ∷ xs) same = ap₂ (λ (here rest : List ExternalRange). here ++ rest) (same x) (flat_alike f g xs same)
+
 -- names by their logs leave the directory
 pub directory_is : (pools : List PoolLine) (names : NamesView) → IsDirectory names.heaps → names.heaps.sockets ≡ sockets_of pools
     → directory_in pools (shared_of names) ≡ names.heaps.plain
@@ -86,7 +95,7 @@ directory_is pools names sound sockets =
     ap (λ (sockets : List ℕ). directory_after (opening sockets) names.heaps.log) (sym sockets) ∙ sym sound.replayed
 
 -- each range of the heap's index is one of its chunks
-listed_so : (ranges : List HeapRange) (index : ℕ) (heap : PlainHeap) → heap.index ≡ index
+pub listed_so : (ranges : List HeapRange) (index : ℕ) (heap : PlainHeap) → heap.index ≡ index
     → IsPermutation (filter (λ range. range.index == index) ranges) (map (directory_range index) (naming_of heap).chunks) → AreListed ranges heap
 listed_so ranges index heap its moved addr len page =
     let q : HeapRange → Bool = λ range. (range.addr == addr) && ((range.len == len) && (range.page == page)) in
@@ -141,6 +150,20 @@ module _ (names : NamesView) (heaps : List HeapView) (claims : List ExternalRang
   pub all_claimed : (index : ℕ) (heap : HeapView) → slice_get heaps index ≡ Some heap → AreClaimed claims heap.plain.chunks
   all_claimed index heap there =
       AllByRecursion-each (λ (chunk : Chunk). Contains claims (claim_of chunk)) heap.plain.chunks (λ chunk has. chunk_claimed index heap chunk there has)
+
+  -- and no other memory is
+  memory_at : (index : ℕ) (heap : Option HeapView) → slice_get heaps index ≡ heap
+      → map claim_of (option_map_or (λ (heap : HeapView). heap.plain.chunks) heap [])
+      ≡ map chunk_memory (option_map_or (λ (heap : HeapView). naming_of heap.plain) heap (naming_of (opening_heap index None))).chunks
+  unfolding naming_of
+  memory_at index None is = refl
+  memory_at index (Some heap) is = memory_is heap.plain.chunks
+
+  pub claims_are : AreClaimsOf heaps claims
+  claims_are =
+      subst (λ (memory : List ExternalRange). IsPermutation memory claims)
+      (sym (flat_alike (λ index. map claim_of (chunks_at heaps index)) (λ index. map chunk_memory (namings_of heaps index).chunks)
+      (range_with_len 0 MAX_HEAPS) (λ index. memory_at index (slice_get heaps index) refl))) agreed.claims
 
   -- WHO HAS ATTACHED WHAT
 

@@ -1,5 +1,5 @@
 -- Where a workload was run to in one thread, the names agree with the heaps, with external memory, and with the tables that participants leave.
-use Rattle.std.proofs.Common.{◌≡◌, ◌∙◌, ◌==◌, ℕ, zero, suc, ◌<◌, List, [], ◌∷◌, Contains, filter, length, map, Some, None, refl, ap, sym, subst, arith}
+use Rattle.std.proofs.Common.{◌≡◌, ◌∙◌, ◌==◌, ℕ, zero, suc, ◌<◌, List, [], ◌∷◌, Contains, filter, length, map, Option, Some, None, refl, ap, sym, subst, arith}
 use Rattle.std.specs.List.{All, slice_get}
 use Rattle.std.specs.List.Sorted.{IsPermutation}
 use Rattle.std.specs.Option.{option_map_or}
@@ -17,9 +17,14 @@ use Rattle.hp_hall.proofs.AgreedAlike.{agree_alike}
 use Rattle.hp_hall.specs.AgreedNames.{AreAgreedNames}
 use Rattle.hp_hall.specs.Naming.{Naming, marked_by, naming_of}
 use Rattle.hp_hall.specs.Views.{HeldHeap}
-use Rattle.hp_hall.specs.declared.kept.Kept.TheVariants.{Heap, Names}
+use Rattle.hp_hall.specs.Named.{IsAllocated}
+use Rattle.hp_hall.specs.Values.{history_of}
+use Rattle.hp_hall.specs.declared.kept.Kept.{Kept}
+use Rattle.hp_hall.specs.declared.kept.Kept.TheVariants.{Heap, Names, Segments}
 use Rattle.hp_hall.specs.declared.slot.TheConstants.{NAMES_SLOT}
+use Rattle.hp_heap.proofs.AllocFacts.ChoiceLaw.{Contains-none}
 use Rattle.hp_heap.specs.History.{HeapView, IsSound}
+use Rattle.hp_heap.specs.declared.entry.Entry.{Entry}
 use Rattle.hp_heap.specs.Joining.{zone_ranges}
 use Rattle.hp_heap.specs.PlainHeap.{PlainHeap, data_address, opening_heap}
 use Rattle.hp_maps.specs.MapsView.{chunk_rows}
@@ -34,7 +39,7 @@ use Rattle.hp_plain.specs.Opening.{HandsOut, heaps_in, namings_of}
 use Rattle.hp_proc.specs.Handing.{shared_of}
 use Rattle.hp_proc.specs.Heaps.{sockets_of}
 use Rattle.hp_proc.specs.LinesDone.{Course}
-use Rattle.hp_proc.specs.NamesAtEnd.{AreElementsOf, IsDirectoryOf}
+use Rattle.hp_proc.specs.NamesAtEnd.{AreClaimsOf, AreElementsOf, AreZonesOf, IsDirectoryOf, IsReserved}
 use Rattle.hp_proc.specs.OneThread.{names_by}
 use Rattle.hp_proc.specs.RunEnds.{HasAttached}
 use Rattle.hp_proc.specs.SharedNames.{directory_in, zones_in}
@@ -49,28 +54,41 @@ use Rattle.hp_serve.specs.Tied.{HasChunks}
 use Rattle.hp_zone.specs.Directory.{PlainDirectory, heap_at}
 use Rattle.hp_zone.specs.declared.heap_name.HeapRange.{HeapRange}
 use Rattle.hp_zone.specs.declared.names.Names.{Names as NamesView}
+use Rattle.hp_stats.specs.StatViews.{PenView}
 use Rattle.hp_zone.specs.declared.zone.Zone.{Zone}
-use Rattle.thm_run.proofs.HallFacts.HallEnds.{heaps_many, out_many}
+use Rattle.hp_zone.specs.declared.zone.ZoneChange.TheVariants.{Put}
+use Rattle.thm_run.proofs.HallFacts.HallEnds.{heaps_many, opened_many, out_many}
 use Rattle.thm_run.proofs.HallFacts.HallHeaps.{all_from_places, first_sound, heap_at as heap_of_slot, heap_home, values_sound}
-use Rattle.thm_run.proofs.NamesEnd.AgreedAtEnd.{all_claimed, all_known, all_marked, directory_is, lists_are, names_are, naming_at as naming_there}
+use Rattle.thm_run.proofs.NamesEnd.NamesHome.{agreed_so_far, sound_so_far}
+use Rattle.thm_run.proofs.NamesEnd.Reserved.{AreReserved, all_reserved, history_at}
+use Rattle.thm_run.proofs.NamesEnd.AgreedAtEnd.{all_claimed, all_known, all_marked, claims_are, directory_is, lists_are, names_are, naming_at as naming_there}
 use Rattle.thm_run.proofs.SeatFacts.FirstSegs.{armed_first}
 use Rattle.thm_run.proofs.SlotAlong.{opened_names}
 use Rattle.thm_run.specs.SoFar.{AreSoundNames, SoFar, first_hall, first_names, first_segs}
 
--- where the names stand in a hall that hands out its values, and what they speak of, of each heap
-names_slot : (segs : SegsView) (names : NamesView) (heaps : List HeldHeap) (number : ℕ) → length heaps ≡ number
-    → slice_get (slots_of heaps segs names) (suc number) ≡ Some (home_slot (Names names))
-names_slot segs names [] zero count = refl
-names_slot segs names [] (suc number) count = cc
-names_slot segs names (heap ∷ heaps) zero count = cc
-names_slot segs names (heap ∷ heaps) (suc number) count = names_slot segs names heaps number (omega (arith, count))
-
+-- what the names speak of, of each heap that a hall hands out
 naming_out : (segs : SegsView) (names : NamesView) (heaps : List HeldHeap) (number : ℕ) (other : Naming) → number < length heaps
     → option_map_or (λ (heap : HeapView). naming_of heap.plain) (slice_get (heaps_in heaps) number) other
     ≡ unwrap_or (naming_in (slice_get (slots_of heaps segs names) number)) other
 naming_out segs names [] number other below = absurd (omega (arith, below))
 naming_out segs names (heap ∷ heaps) zero other below = refl
 naming_out segs names (heap ∷ heaps) (suc number) other below = naming_out segs names heaps number other (omega (arith, below))
+
+heap_out : (segs : SegsView) (names : NamesView) (heaps : List HeldHeap) (number : ℕ) (own : HeapView) (pen : PenView)
+    → slice_get (map (λ (slot : SlotView). slot.kept) (slots_of heaps segs names)) number ≡ Some (Heap own pen)
+    → slice_get (heaps_in heaps) number ≡ Some own
+heap_out segs names [] zero own pen there =
+    let same : Segments segs ≡ Heap own pen = same_Some (Segments segs) (Heap own pen) there in
+    cc
+heap_out segs names [] (suc zero) own pen there =
+    let same : Names names ≡ Heap own pen = same_Some (Names names) (Heap own pen) there in
+    cc
+heap_out segs names [] (suc (suc number)) own pen there = cc
+heap_out segs names (heap ∷ heaps) zero own pen there =
+    let same : Heap heap.heap heap.pen ≡ Heap own pen = same_Some (Heap heap.heap heap.pen) (Heap own pen) there in
+    let its : heap.heap ≡ own = cc in
+    ap Some its
+heap_out segs names (heap ∷ heaps) (suc number) own pen there = heap_out segs names heaps number own pen there
 
 same_view : (one other : NamesView) → Names one ≡ Names other → one ≡ other
 same_view one other same = cc
@@ -86,10 +104,6 @@ module _ (workload : Workload) (courses : List Course) (parties : List Party) (h
 
   held_count : length out.held ≡ MAX_HEAPS
   held_count = out_many workload courses parties hall so heaps segs names out
-
-  at_names : slot_at hall NAMES_SLOT ≡ Some (home_slot (Names names))
-  at_names =
-      ap (λ (slots : List SlotView). slice_get slots NAMES_SLOT) out.slots_are ∙ names_slot segs names out.held MAX_HEAPS held_count
 
   value : slice_get (values_in hall) NAMES_SLOT ≡ Some (Names names)
   value =
@@ -107,11 +121,7 @@ module _ (workload : Workload) (courses : List Course) (parties : List Party) (h
   leave = ap shared_of (sym names_same) ∙ so.leave
 
   pub sound : AreSoundNames names
-  sound =
-      (values_stay_sound (first_hall workload so.held) hall so.course (λ number kept there.
-      values_sound so.held (first_segs workload) (first_names workload) number kept so.first_heaps.sound
-      (first_sound workload courses parties hall so) (armed_first workload.pools.items workload.participants workload.absent) so.names_sound there)).1
-      NAMES_SLOT (Names names) value
+  sound = subst AreSoundNames names_same (sound_so_far workload courses parties hall so)
 
   segs_is : is_hall.segs ≡ segs
   segs_is =
@@ -131,13 +141,10 @@ module _ (workload : Workload) (courses : List Course) (parties : List Party) (h
 
   pub agreed : AreAgreedNames names (namings_of heaps) segs.ranges
   agreed =
-      let named = is_hall.named in
-      let same : named.names ≡ names =
-      same_Some named.names names (sym named.there ∙ ap names_of_slot at_names) in
       agree_alike names (naming_at hall) (namings_of heaps) segs.ranges naming_same
       (subst (λ (segs : SegsView). AreAgreedNames names (naming_at hall) segs.ranges) segs_is
-      (subst (λ (names : NamesView). AreAgreedNames names (naming_at hall) is_hall.segs.ranges) same
-      (named.agrees (so.home NAMES_SLOT (omega arith)))))
+      (subst (λ (names : NamesView). AreAgreedNames names (naming_at hall) is_hall.segs.ranges) names_same
+      (agreed_so_far workload courses parties hall so is_hall)))
 
   pub directory_same : directory_in workload.pools.items (shared_of names) ≡ names.heaps.plain
   directory_same = directory_is workload.pools.items names sound.1 sockets
@@ -174,6 +181,42 @@ module _ (workload : Workload) (courses : List Course) (parties : List Party) (h
 
   pub few_zones : All (λ (zone : Zone). zone.heap < MAX_HEAPS) (zones_in (shared_of names))
   few_zones = subst (All (λ (zone : Zone). zone.heap < MAX_HEAPS)) (sym zones_same) agreed.zones
+
+  pub claimed : AreClaimsOf heaps segs.ranges
+  claimed = claims_are names heaps segs.ranges count agreed
+
+  -- each memzone that was ever put was reserved
+  first_reserved : AreReserved (values_in (first_hall workload so.held))
+  first_reserved names there zone among =
+      let at : slice_get (values_in (first_hall workload so.held)) NAMES_SLOT ≡ Some (Names (first_names workload)) =
+      opened_names (first_segs workload) (first_names workload) so.held MAX_HEAPS (opened_many workload courses parties hall so) in
+      let same : names ≡ first_names workload =
+      same_view names (first_names workload) (same_Some (Names names) (Names (first_names workload)) (sym there ∙ at)) in
+      absurd (Contains-none (Put zone) (subst (λ (names : NamesView). Contains names.zones.log (Put zone)) same among))
+
+  heap_there : (index : ℕ) (entry : Entry) (kept : Option Kept) → slice_get (values_in hall) index ≡ kept
+      → Contains (option_map_or history_of kept []) entry → (heap : HeapView) × (slice_get heaps index ≡ Some heap) × (history_at (values_in hall) index ≡ heap.history)
+  heap_there index entry None is among = absurd (Contains-none entry among)
+  heap_there index entry (Some (Segments segs)) is among = absurd (Contains-none entry among)
+  heap_there index entry (Some (Names names)) is among = absurd (Contains-none entry among)
+  heap_there index entry (Some (Heap heap pen)) is among = (
+    heap,
+    ap (λ (heaps : List HeapView). slice_get heaps index) (sym out.heaps_are)
+        ∙ heap_out segs names out.held index heap pen
+        (ap (λ (slots : List SlotView). slice_get (map (λ (slot : SlotView). slot.kept) slots) index) (sym out.slots_are) ∙ is),
+    ap (λ (kept : Option Kept). option_map_or history_of kept []) is,
+  )
+
+  pub reserved : (zone : Zone) → Contains names.zones.log (Put zone) → IsReserved heaps zone
+  reserved zone among =
+      let its =
+      all_reserved (length (first_hall workload so.held).owns) so.course.steps (values_in (first_hall workload so.held)) (values_in hall)
+      so.course.kept first_reserved names value zone among in
+      let at = heap_there zone.heap its.entry (slice_get (values_in hall) zone.heap) refl its.there in
+      record { heap = at.0; there = at.1; allocated = subst (IsAllocated zone.addr) at.2 its }
+
+  pub zones : AreZonesOf (shared_of names) heaps
+  zones = record { elements = elements; few = few_zones; reserved = reserved }
 
   -- WHO HAS ATTACHED WHAT
 

@@ -4,7 +4,6 @@ use Rattle.std.proofs.Common.{◌≡◌, ◌∙◌, ◌==◌, ℕ, ◌+◌, ◌�
 use Rattle.std.specs.List.{All, AllByRecursion, filter_map, fold}
 use Rattle.std.proofs.lemmas.List.{take_at}
 use Rattle.std.proofs.lemmas.List.Elements.{All-cons, All-nil}
-use Rattle.hp_board.specs.Views.{BeginsWith}
 use Rattle.hp_proc.specs.Doing.{Done}
 use Rattle.hp_proc.specs.Doing.Done.{NamesChanged, NamesRead}
 use Rattle.hp_proc.specs.Handed.{AreFrontNames, AreNamesHanded, names_shown}
@@ -15,9 +14,14 @@ use Rattle.hp_proc.specs.SharedNames.{NamesChange, SharedNames, names_with, no_c
 use Rattle.hp_proc.specs.SharedNames.NamesChange.{OfHeaps, OfZones}
 use Rattle.hp_weave.specs.Holds.{Chain, Hold, holds_of}
 use Rattle.thm_run.proofs.Rising.{Rises, seen_rising}
-use Rattle.thm_moved.proofs.NamesOfWays.{ReadsFirst, held_for, held_in}
+use Rattle.thm_run.proofs.NamesEnd.LinesHeld.{held_for, held_in}
+use Rattle.thm_run.specs.Handing.{ReadsFirst}
 
 -- LATER NAMES
+
+-- a list begins with another one
+abbrev pub BeginsWith : {A : Type 0} → List A → List A → Type 0
+BeginsWith {A} whole front = (rest : List A) × (whole ≡ front ++ rest)
 
 -- names later on: both logs begin with the earlier ones
 pub record AreLater (old new : SharedNames) : Type 0 where
@@ -57,7 +61,7 @@ onward_from : (lower low : SharedNames) (shown : List SharedNames) (high : Share
 onward_from lower low [] high first on = later_on lower low high first on
 onward_from lower low (names ∷ shown) high first on = (later_on lower low names first on.0, on.1)
 
-onward_whole : (low : SharedNames) (shown : List SharedNames) (high : SharedNames) → AreOnward low shown high → AreLater low high
+pub onward_whole : (low : SharedNames) (shown : List SharedNames) (high : SharedNames) → AreOnward low shown high → AreLater low high
 onward_whole low [] high on = on
 onward_whole low (names ∷ shown) high on = later_on low names high on.0 (onward_whole names shown high on.1)
 
@@ -132,7 +136,7 @@ lines_onward high who (course ∷ courses) low known first held =
 
 -- WHAT THAT SAYS
 
-front_is : {A : Type 0} (whole front : List A) → BeginsWith whole front → take (length front) whole ≡ front
+pub front_is : {A : Type 0} (whole front : List A) → BeginsWith whole front → take (length front) whole ≡ front
 front_is whole front (rest, is) = ap (take (length front)) is ∙ take_at front rest (length front) refl
 
 fronts_of : (low : SharedNames) (shown : List SharedNames) (high : SharedNames) → AreOnward low shown high → All (AreFrontNames high) shown

@@ -6,7 +6,6 @@ use Rattle.std.specs.List.Sorted.{IsPermutation}
 use Rattle.std.proofs.lemmas.Grind.{flat_map-append}
 use Rattle.std.proofs.lemmas.List.{drop_all, drop_at}
 use Rattle.std.proofs.lemmas.List.Sorted.{IsPermutation-append, IsPermutation-append_comm, IsPermutation-append_left, IsPermutation-append_right, IsPermutation-refl, IsPermutation-sym, IsPermutation-trans}
-use Rattle.hp_board.specs.Views.{BeginsWith}
 use Rattle.hp_zone.specs.declared.name_change.NameChange.{NameChange}
 use Rattle.hp_zone.specs.declared.zone.ZoneChange.{ZoneChange}
 use Rattle.hp_proc.specs.Doing.{Done}
@@ -18,17 +17,15 @@ use Rattle.hp_proc.specs.SharedNames.{NamesChange, SharedNames, names_with, no_c
 use Rattle.hp_proc.specs.SharedNames.NamesChange.{OfHeaps, OfZones}
 use Rattle.hp_weave.specs.Holds.{Chain, Hold, holds_of}
 use Rattle.thm_run.proofs.WhatWentBack.CutRuns.{at_heap, flat_map_alike, flat_map_parts, picked_once}
-use Rattle.thm_moved.proofs.NamesChain.{AreLater, GivesLater, later_after, later_on, later_same, later_with}
-use Rattle.thm_moved.proofs.NamesOfWays.{ReadsFirst, held_for, held_in}
+use Rattle.thm_run.proofs.NamesEnd.LinesHeld.{held_for, held_in}
+use Rattle.thm_run.proofs.NamesEnd.NamesChain.{AreLater, BeginsWith, GivesLater, later_after, later_on, later_same, later_with}
+use Rattle.thm_run.specs.Handing.{ReadsFirst}
 
 -- WHAT CAME BETWEEN NAMES AND LATER ONES
 
 -- what a list has after so many elements, each with its place
 abbrev pub numbered_after : {A : Type 0} → ℕ → List A → List (ℕ × A)
 numbered_after from all = enumerate_from from (drop from all)
-
-
-
 
 -- the changes that came to names, each with its place in its log
 abbrev pub came_between : SharedNames → SharedNames → List (ℕ × NamesChange)
