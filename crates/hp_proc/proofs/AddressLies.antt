@@ -1,11 +1,12 @@
 -- An address that an allocation in the heap in hand gives lies in a page of that heap, and so in a row of its holder's own table.
-use Rattle.std.proofs.Common.{◌≡◌, ◌∙◌, ℕ, Bool, ◌+◌, ◌<◌, ◌≤◌, true, List, [], ◌++◌, append-nil, map, Option, Some, None, MatchOption, Contains, nat_le, ◌==◌, count_by, refl, ap, sym, subst, arith}
+use Rattle.std.proofs.Common.{◌≡◌, ◌∙◌, ℕ, Bool, ◌+◌, ◌<◌, ◌≤◌, true, List, [], ◌++◌, append-nil, map, filter, Option, Some, None, MatchOption, Contains, nat_le, ◌==◌, count_by, refl, ap, sym, subst, ⊎_elim, inl, inr, arith}
 use Rattle.std.proofs.lemmas.Bool.{and_from, and_parts, eqb-true, le-leb, leb-true, lt-ltb, ltb-true}
 use Rattle.hp_base.specs.declared.chunk.Chunk.{Chunk}
 use Rattle.hp_base.specs.declared.request.Request.{Request}
 use Rattle.hp_base.specs.declared.row.Row.{Row}
 use Rattle.hp_base.specs.declared.span.Span.{Span}
 use Rattle.hp_base.specs.declared.tag.Tag.{Tag}
+use Rattle.std.proofs.lemmas.List.Elements.{All-contains}
 use Rattle.hp_hall.specs.HallState.{HallState}
 use Rattle.hp_hall.specs.Holding.{HasPages, IsHeldWith}
 use Rattle.hp_hall.specs.Own.{Own, rows_known}
@@ -22,13 +23,14 @@ use Rattle.hp_heap.proofs.AllocFacts.AllocLaw.{allocated-is}
 use Rattle.hp_heap.proofs.AllocFacts.ChoiceLaw.{eligible-candidate}
 use Rattle.hp_heap.proofs.Members.{Contains-imaged, counted_some, some_counted}
 use Rattle.hp_log.specs.declared.log_record.LogRecord.{LogRecord}
-use Rattle.hp_maps.specs.MapsView.{is_of_log, table_in}
+use Rattle.hp_maps.specs.Chunks.{is_of_chunk, rows_of_chunk}
+use Rattle.hp_maps.specs.MapsView.{chunk_rows, is_of_log, table_in}
 use Rattle.hp_script.specs.declared.answer.Answer.{Answer}
 use Rattle.hp_script.specs.declared.answer.Answer.TheVariants as answer
 use Rattle.hp_segs.specs.Standing.{Holding}
 use Rattle.hp_segs.specs.declared.row_state.Segment.{Segment}
-use Rattle.hp_proc.specs.LineInHall.{HoldsIn, IsKnownMapped, IsMapped, LiesIn, TableStays}
-use Rattle.hp_serve.specs.InHall.{IsTiedIn}
+use Rattle.hp_proc.specs.LineInHall.{HoldsIn, IsKnownMapped, IsMapped, LiesIn, LiesInMarked, TableStays}
+use Rattle.hp_serve.specs.InHall.{IsTiedIn, marked_in}
 use Rattle.hp_serve.specs.Party.{Party}
 use Rattle.hp_serve.specs.Tied.{part_of}
 use Rattle.hp_proc.specs.ParticipantView.{ParticipantView}
@@ -81,7 +83,7 @@ row_with pages owned rows address has mapped at =
     }
 
 -- the place that an allocation is given lies in an element of the heap
-placed_by : (participant : ℕ) (request : Request) (heap : PlainHeap) (address : ℕ) → IsTiled heap
+pub placed_by : (participant : ℕ) (request : Request) (heap : PlainHeap) (address : ℕ) → IsTiled heap
     → allocated participant request heap ≡ Some address → IsPlacedIn participant request heap address
 placed_by participant request heap address tiled is =
     subst (λ (found : Option ℕ). MatchOption found (HasNoChoice participant request heap) (IsPlacedIn participant request heap)) is
@@ -94,7 +96,7 @@ allocated_so None address is = absurd (differs is)
     differs equal = cc
 allocated_so (Some other) address is = cc
 
-given_so : (participant : ℕ) (request : Request) (tag : Tag) (heap : PlainHeap) (address : ℕ)
+pub given_so : (participant : ℕ) (request : Request) (tag : Tag) (heap : PlainHeap) (address : ℕ)
     → gives.Address address ≡ answer_of participant (call.Alloc request tag) heap → allocated participant request heap ≡ Some address
 unfolding answer_of
 given_so participant request tag heap address is = allocated_so (allocated participant request heap) address is
@@ -115,7 +117,7 @@ address_in_page doer request tag address socket heap next step tiled serves =
 module _ (me : ℕ) (doer : ParticipantView) (request : Request) (tag : Tag) (address socket : ℕ) (heap next : HeapView) (state : HallState)
     (step : IsCall (caller_of doer) (call.Alloc request tag) (gives.Address address) heap next) (serves : heap.plain.serves ≡ Some socket)
     (holds : HoldsIn me doer heap state) where
-  pub address_lies : IsKnownMapped me state (answer.Address address)
+  pub address_lies : state.joined me ≡ true → LiesIn (rows_known (state.seen me) (state.own me)) address
   address_lies joined =
       by_holding (state.part me heap.plain.index).holding refl holds.in_hand.held
     where
@@ -127,6 +129,10 @@ module _ (me : ℕ) (doer : ParticipantView) (request : Request) (tag : Tag) (ad
           (λ segment among. holds.mapped joined heap.plain.index holding segment is among)
           (address_in_page doer request tag address socket heap next step holds.in_hand.sound.tiled serves)
 
+-- a row of a chunk in a table is a row of the table
+in_table : (rows : List Row) (row : Row) → Contains (chunk_rows rows) row → Contains rows row
+in_table rows row has = contains_unkept _ rows row has
+
 -- what it answers is that
 pub lies_so : (me : ℕ) (state : HallState) (given answer : Answer) → IsKnownMapped me state given → Some given ≡ Some answer → IsKnownMapped me state answer
 lies_so me state given answer lies same =
@@ -137,25 +143,52 @@ lies_so me state given answer lies same =
 pub lies_none : (me : ℕ) (state : HallState) (answer : Answer) → None ≡ Some answer → IsKnownMapped me state answer
 lies_none me state answer same = absurd cc
 
--- where its own table is known by the same it is so still
-pub lies_still : (me : ℕ) (old new : HallState) (given : Answer) → TableStays me old new → IsKnownMapped me old given → IsKnownMapped me new given
-lies_still me old new (answer.Address address) stays lies = λ joined.
-    subst (λ (log : List LogRecord). LiesIn (rows_known log (new.own me)) address) (sym stays.seen)
-    (subst (λ (own : Own). LiesIn (rows_known (old.seen me) own) address) (sym stays.own) (lies (sym stays.joined ∙ joined)))
-lies_still me old new _ stays lies = lies
+-- where its own table is known by the same, and its marks are the same, it is so still
+pub lies_still : (me : ℕ) (old new : HallState) (given : Answer) → TableStays me old new
+    → ((heap : ℕ) → marked_in me new heap ≡ marked_in me old heap) → IsKnownMapped me old given → IsKnownMapped me new given
+lies_still me old new (answer.Address address) stays marks lies = λ joined.
+    ⊎_elim
+    (λ (known : LiesIn (rows_known (old.seen me) (old.own me)) address). inl
+      (subst (λ (log : List LogRecord). LiesIn (rows_known log (new.own me)) address) (sym stays.seen)
+      (subst (λ (own : Own). LiesIn (rows_known (old.seen me) own) address) (sym stays.own) known)))
+    (λ (has : LiesInMarked (marked_in me old) address). inr
+      (record {
+        heap = has.heap;
+        few = has.few;
+        chunk = has.chunk;
+        among = subst (λ (chunks : List Chunk). Contains chunks has.chunk) (sym (marks has.heap)) has.among;
+        lies = has.lies;
+      }))
+    (lies (sym stays.joined ∙ joined))
+lies_still me old new _ stays marks lies = lies
 
 -- who is in the roster has the row in its own table
 pub lies_in_table : (me : ℕ) (party : Party) (state : HallState) (given : Answer) → IsTiedIn me party state → state.joined me ≡ true
     → IsKnownMapped me state given → IsMapped party given
 lies_in_table me party state (answer.Address address) tied joined lies =
-    let known = lies joined in
-    let has : table_in party.maps.rows ≡ rows_known (state.seen me) (state.own me) =
-    tied.table.table.rows
-    ∙ ap (λ (joined : Bool). rows_known (state.seen me) (part_of joined (state.own me))) (sym tied.same ∙ joined) in
-    record {
-      row = known.row;
-      among = contains_unkept is_of_log party.maps.rows known.row (subst (λ (rows : List Row). Contains rows known.row) (sym has) known.among);
-      from = known.from;
-      below = known.below;
-    }
+    ⊎_elim
+    (λ (known : LiesIn (rows_known (state.seen me) (state.own me)) address).
+      (let has : table_in party.maps.rows ≡ rows_known (state.seen me) (state.own me) =
+      tied.table.table.rows
+      ∙ ap (λ (joined : Bool). rows_known (state.seen me) (part_of joined (state.own me))) (sym tied.same ∙ joined) in
+      record {
+        row = known.row;
+        among = contains_unkept is_of_log party.maps.rows known.row (subst (λ (rows : List Row). Contains rows known.row) (sym has) known.among);
+        from = known.from;
+        below = known.below;
+      }))
+    (λ (has : LiesInMarked (marked_in me state) address).
+      (let all : filter (is_of_chunk has.chunk) (chunk_rows party.maps.rows) ≡ rows_of_chunk has.chunk =
+      All-contains (λ (chunk : Chunk). filter (is_of_chunk chunk) (chunk_rows party.maps.rows) ≡ rows_of_chunk chunk) (marked_in me state has.heap)
+      has.chunk (tied.table.table.chunks.each has.heap has.few) has.among in
+      let its : Contains (chunk_rows party.maps.rows) has.lies.row =
+      contains_unkept (is_of_chunk has.chunk) (chunk_rows party.maps.rows) has.lies.row
+      (subst (λ (rows : List Row). Contains rows has.lies.row) (sym all) has.lies.among) in
+      record {
+        row = has.lies.row;
+        among = in_table party.maps.rows has.lies.row its;
+        from = has.lies.from;
+        below = has.lies.below;
+      }))
+    (lies joined)
 lies_in_table me party state _ tied joined lies = tt

@@ -1,40 +1,37 @@
--- What was done of a line that attaches or detaches, and what it leaves.
-use Rattle.std.proofs.Common.{◌≡◌, ◌≢◌, ◌∙◌, ℕ, ◌<◌, Bool, true, false, ◌||◌, List, [], ◌∷◌, ◌++◌, append-nil, length, None, refl, ap, sym, subst, arith}
+-- What was done of a line that attaches, and what it leaves.
+use Rattle.std.proofs.Common.{◌≡◌, ◌∙◌, ℕ, ◌<◌, Bool, true, false, ◌||◌, List, [], ◌∷◌, ◌++◌, append-nil, length, None, refl, ap, sym, subst, arith}
 use Rattle.std.proofs.Math.Bool.{or-false, or-true}
 use Rattle.hp_base.specs.Mapping.{is_done}
 use Rattle.hp_base.specs.declared.caught.Caught.{Caught}
 use Rattle.hp_base.specs.declared.caught.Caught.TheVariants.{Done, Refused, Elsewhere}
 use Rattle.hp_hall.specs.Holding.{HeapPart}
-use Rattle.hp_hall.specs.Mail.{MailStep, Notes}
-use Rattle.hp_hall.specs.declared.note.Note.TheVariants.{Emptied}
+use Rattle.hp_hall.specs.Mail.{MailStep}
 use Rattle.hp_log.specs.declared.log_record.LogRecord.{LogRecord}
 use Rattle.hp_script.specs.declared.answer.Answer.{Answer}
 use Rattle.hp_script.specs.declared.answer.Answer.TheVariants as answer
 use Rattle.hp_script.specs.declared.line.Act.{Act}
 use Rattle.hp_script.specs.declared.line.Act.TheVariants as act
 use Rattle.hp_script.specs.declared.line.Line.{Line}
-use Rattle.hp_segs.specs.LaterSteps.{after_leave}
 use Rattle.hp_segs.specs.SegsView.{SegsView}
 use Rattle.hp_segs.specs.declared.outcome.AskLog.{AskLog}
 use Rattle.hp_proc.specs.LineTrees.{doing_of}
 use Rattle.hp_proc.specs.Acting.{Acts, AreAsked}
-use Rattle.hp_serve.specs.Attaching.{Attaches, after_attaching, after_detaching}
-use Rattle.hp_proc.specs.Contexts.{AreFactsOf, Context, after_calls}
-use Rattle.hp_proc.specs.Courses.{HasRequest, Standing, after_line, attached_after, element_brought, records_after, standing_tried}
+use Rattle.hp_serve.specs.Attaching.{Attaches, after_attaching}
+use Rattle.hp_proc.specs.Contexts.{Context, after_calls}
+use Rattle.hp_proc.specs.Courses.{Standing, attached_after, chunks_after, element_brought, records_after, standing_tried}
 use Rattle.hp_proc.specs.Doing.{Doing, Done as Did, Goes, Leads}
 use Rattle.hp_proc.specs.Doing.Done.{CaughtUp, Looked}
-use Rattle.hp_proc.specs.Lines.{Facts, attached_with, attaching, if_attached}
+use Rattle.hp_proc.specs.Lines.{Facts, attached_with, attaching}
 use Rattle.hp_serve.specs.Party.{IsSameParty, Party}
 use Rattle.hp_proc.specs.ParticipantView.{ParticipantView, with_standing}
 use Rattle.hp_proc.specs.Registering.{validators_after, watchers_after}
-use Rattle.hp_maps.specs.Events.{IsToldByAddress}
-use Rattle.hp_base.specs.Telling.{Listener}
-use Rattle.hp_proc.specs.Progress.{Does, DoesLine, MayComeAndGo, MayDo, Moment, moment_of}
+use Rattle.hp_proc.specs.Progress.{Does, DoesApart, DoesLine, MayComeAndGo, Moment, moment_of}
 use Rattle.hp_serve.specs.Serving.{acks_after, gives_segments, takes_segments}
 use Rattle.hp_proc.specs.declared.own_element.OwnElement.{OwnElement}
-use Rattle.hp_proc.proofs.Joining.{does_same}
-use Rattle.hp_proc.proofs.LineEnds.{ends_as_it_was}
-use Rattle.hp_proc.proofs.LineFacts.{IsLineOfOne, facts_for, facts_known, holds_none}
+use Rattle.hp_proc.proofs.ChangedLines.{known_none, line_changed, line_nothing, standing_after}
+use Rattle.hp_proc.proofs.LineFacts.{facts_for}
+use Rattle.hp_proc.proofs.LinesApart.{apart_nameless}
+use Rattle.hp_proc.proofs.TreeDeeds.{IsNameless, Only}
 use Rattle.hp_proc.proofs.HandFacts.OnceHeld.{once_none}
 
 -- one that attaches or detaches is not participant 0's
@@ -43,12 +40,6 @@ attaches_second who deed is same = subst (MayComeAndGo who) same is
 
 pub detaches_second : (who : ℕ) (deed : Act) → MayComeAndGo who deed → deed ≡ act.Detach → 0 < who
 detaches_second who deed is same = subst (MayComeAndGo who) same is
-
--- one that attaches needs no request, and one that detaches neither
-known_none : (socket : ℕ) (context : Context) (line : Line) (deed : Act) → line.act ≡ deed → HasRequest deed None
-    → AreFactsOf socket context line (facts_for socket context line.act None)
-known_none socket context line deed is has =
-    facts_known socket context line None (subst (λ (done : Act). HasRequest done None) (sym is) has)
 
 -- who tried to attach is in the roster where all was mapped, and else as before
 pub joined_by : (deed : Act) (records : ℕ) (caught : Caught) (given : Answer) (before after : Bool) → deed ≡ act.Attach
@@ -86,14 +77,6 @@ joined_still deed given before attach is =
     subst (λ (deed : Act). before ≡ attached_after deed given before) (sym attach)
     (subst (λ (given : Answer). before ≡ attached_after act.Attach given before) (sym is) refl)
 
--- and so is who was out
-pub joined_out : (deed : Act) (before : Bool) → deed ≡ act.Detach → before ≡ attached_after deed answer.Detached before
-joined_out deed before detach = subst (λ (deed : Act). before ≡ attached_after deed answer.Detached before) (sym detach) refl
-
--- who detached is in it no longer
-pub joined_left : (deed : Act) (before after : Bool) → deed ≡ act.Detach → after ≡ false → after ≡ attached_after deed answer.Done before
-joined_left deed before after detach is = subst (λ (deed : Act). after ≡ attached_after deed answer.Done before) (sym detach) is
-
 -- what a line leaves that tried to attach
 tried_leaves : (line : Line) (records : ℕ) (caught : Caught) (given : Answer) (trace : List Did) (standing : Standing)
     → attached_with records caught ≡ Doing.Ended given
@@ -101,6 +84,7 @@ tried_leaves : (line : Line) (records : ℕ) (caught : Caught) (given : Answer) 
       attached = attached_after act.Attach given standing.attached;
       records = records_after act.Attach given standing.records;
       elements = standing.elements ++ element_brought line act.Attach given trace;
+      chunks = chunks_after act.Attach given trace standing.chunks;
       watchers = watchers_after act.Attach given standing.watchers;
       validators = validators_after act.Attach given standing.validators;
     }
@@ -112,6 +96,7 @@ tried_leaves line records Done given trace standing is =
       attached = attached_after act.Attach given standing.attached;
       records = records_after act.Attach given standing.records;
       elements = standing.elements ++ element_brought line act.Attach given trace;
+      chunks = chunks_after act.Attach given trace standing.chunks;
       watchers = watchers_after act.Attach given standing.watchers;
       validators = validators_after act.Attach given standing.validators;
     }) same
@@ -122,6 +107,7 @@ tried_leaves line records (Refused row call) given trace standing is =
       attached = attached_after act.Attach given standing.attached;
       records = records_after act.Attach given standing.records;
       elements = standing.elements ++ element_brought line act.Attach given trace;
+      chunks = chunks_after act.Attach given trace standing.chunks;
       watchers = watchers_after act.Attach given standing.watchers;
       validators = validators_after act.Attach given standing.validators;
     }) same
@@ -132,50 +118,18 @@ tried_leaves line records (Elsewhere row call got) given trace standing is =
       attached = attached_after act.Attach given standing.attached;
       records = records_after act.Attach given standing.records;
       elements = standing.elements ++ element_brought line act.Attach given trace;
+      chunks = chunks_after act.Attach given trace standing.chunks;
       watchers = watchers_after act.Attach given standing.watchers;
       validators = validators_after act.Attach given standing.validators;
     }) same
 
--- what was left of a line with that act is what its act says
-standing_after : (line : Line) (deed : Act) (given : Answer) (trace : List Did) (standing left : Standing) → line.act ≡ deed
-    → left ≡ record {
-      attached = attached_after deed given standing.attached;
-      records = records_after deed given standing.records;
-      elements = standing.elements ++ element_brought line deed given trace;
-      watchers = watchers_after deed given standing.watchers;
-      validators = validators_after deed given standing.validators;
-    } → left ≡ after_line line given trace standing
-standing_after line deed given trace standing left is leaves =
-    leaves ∙ ap (λ (deed : Act). record {
-      attached = attached_after deed given standing.attached;
-      records = records_after deed given standing.records;
-      elements = standing.elements ++ element_brought line deed given trace;
-      watchers = watchers_after deed given standing.watchers;
-      validators = validators_after deed given standing.validators;
-    }) (sym is)
-
--- a participant that may do its line may do the next one whatever it noted
-pub ready_noted : (doer after : ParticipantView) (parts : ℕ → HeapPart) (log : List LogRecord) (asks : List AskLog) (standing : Standing)
-    → after ≡ with_standing standing doer → MayDo (moment_of doer parts log asks) → MayDo (moment_of after parts log asks)
-ready_noted doer after parts log asks standing noted ready =
-    subst (λ (after : ParticipantView). MayDo (moment_of after parts log asks)) (sym noted)
-    (record { sockets = ready.sockets; unheld = ready.unheld; settled = ready.settled; counted = ready.counted })
-
--- who attached, or tried to, or detached, is the same participant
+-- who attached, or tried to, is the same participant
 pub attached_same : (party mid : Party) (log : List LogRecord) (caught : Caught) → Attaches party mid log caught → IsSameParty party mid
 attached_same party mid log caught at = record {
   me = ap (λ (party : Party). party.me) at.after_is;
   socket = ap (λ (party : Party). party.socket) at.after_is;
   plan = ap (λ (party : Party). party.plan) at.after_is;
   deadline = ap (λ (party : Party). party.deadline) at.after_is;
-}
-
-pub detached_same : (told : List Listener) (party mid : Party) → mid ≡ after_detaching told party → IsSameParty party mid
-detached_same told party mid is = record {
-  me = ap (λ (party : Party). party.me) is;
-  socket = ap (λ (party : Party). party.socket) is;
-  plan = ap (λ (party : Party). party.plan) is;
-  deadline = ap (λ (party : Party). party.deadline) is;
 }
 
 -- where all was mapped, its table has taken in as many records as the log has; where not, nothing is said of records
@@ -204,6 +158,17 @@ tried_alike party mid log Done standing at = ap (λ (records : ℕ). standing_tr
 tried_alike party mid log (Refused row call) standing at = refl
 tried_alike party mid log (Elsewhere row call got) standing at = refl
 
+-- it has to do with no names
+tried_nameless : (records : ℕ) (caught : Caught) → Only IsNameless (attached_with records caught)
+unfolding Only
+tried_nameless records Done = tt
+tried_nameless records (Refused row call) = tt
+tried_nameless records (Elsewhere row call got) = tt
+
+attaching_nameless : Only IsNameless (attaching false)
+unfolding Only
+attaching_nameless = λ records. (tt, λ caught. (tt, tried_nameless records caught))
+
 module _ (count : ℕ) (did : List MailStep → Type 0) (line : Line) (doer : ParticipantView) (parts : ℕ → HeapPart) (log : List LogRecord)
     (asks : List AskLog) where
   abbrev before : Moment
@@ -217,49 +182,13 @@ module _ (count : ℕ) (did : List MailStep → Type 0) (line : Line) (doer : Pa
       → DoesLine count did line answer.Already before before
   unfolding doing_of
   line_already its_act attached none =
-      let tree : doing_of line line.act facts ≡ Doing.Ended answer.Already =
-      ap (λ (deed : Act). doing_of line deed facts) its_act ∙ ap attaching attached in
-      let does : Does [] count did (doing_of line line.act facts) (Doing.Ended answer.Already) before before =
-      subst (λ (doing : Doing). Does [] count did doing (Doing.Ended answer.Already) before before) (sym tree)
-      (does_same count did (Doing.Ended answer.Already) before none) in
-      record {
-        facts = facts;
-        known = known_none doer.party.socket doer.context line act.Attach its_act tt;
-        held = [];
-        once = once_none;
-        none = holds_none line.act;
-        mid = before;
-        does = does;
-        ended = ends_as_it_was line act.Attach answer.Already before its_act tt;
-        left = standing_after line act.Attach answer.Already does.trace doer.context.standing doer.context.standing its_act
-            (ap (λ (elements : List OwnElement). record doer.context.standing { elements = elements })
-            (sym (append-nil doer.context.standing.elements)));
-      }
-
-  -- who is out does nothing of a line that detaches
-  pub line_detached : line.act ≡ act.Detach → doer.context.standing.attached ≡ false → did []
-      → DoesLine count did line answer.Detached before before
-  unfolding doing_of
-  line_detached its_act attached none =
-      let tree : doing_of line line.act facts ≡ Doing.Ended answer.Detached =
-      ap (λ (deed : Act). doing_of line deed facts) its_act
-      ∙ ap (λ (attached : Bool). if_attached attached (Doing.Ended answer.Done)) attached in
-      let does : Does [] count did (doing_of line line.act facts) (Doing.Ended answer.Detached) before before =
-      subst (λ (doing : Doing). Does [] count did doing (Doing.Ended answer.Detached) before before) (sym tree)
-      (does_same count did (Doing.Ended answer.Detached) before none) in
-      record {
-        facts = facts;
-        known = known_none doer.party.socket doer.context line act.Detach its_act tt;
-        held = [];
-        once = once_none;
-        none = holds_none line.act;
-        mid = before;
-        does = does;
-        ended = ends_as_it_was line act.Detach answer.Detached before its_act tt;
-        left = standing_after line act.Detach answer.Detached does.trace doer.context.standing doer.context.standing its_act
-            (ap (λ (elements : List OwnElement). record doer.context.standing { elements = elements })
-            (sym (append-nil doer.context.standing.elements)));
-      }
+      line_nothing count did line answer.Already before facts act.Attach its_act tt tt
+      (known_none doer.party.socket doer.context line act.Attach its_act tt) none
+      (ap (λ (deed : Act). doing_of line deed facts) its_act ∙ ap attaching attached) refl tt
+      (λ trace.
+      standing_after line act.Attach answer.Already trace doer.context.standing doer.context.standing its_act
+      (ap (λ (elements : List OwnElement). record doer.context.standing { elements = elements })
+      (sym (append-nil doer.context.standing.elements))))
 
   module _ (mid after : ParticipantView) (later : ℕ → HeapPart) (now more : List LogRecord) (heard others : List AskLog)
       (alike : (heap : ℕ) → later heap ≡ parts heap) (log_is : now ≡ log ++ more) (asks_is : heard ≡ asks ++ others) where
@@ -267,7 +196,7 @@ module _ (count : ℕ) (did : List MailStep → Type 0) (line : Line) (doer : Pa
     behind = moment_of after later now heard
 
     -- what it knew of its lines, but for what the line left
-    known_but : (knew : Context) (standing : Standing) → knew ≡ doer.context
+    pub known_but : (knew : Context) (standing : Standing) → knew ≡ doer.context
         → record knew { standing = standing } ≡ record (after_calls 0 doer.context) { standing = standing }
     known_but knew standing same =
         ap (λ (context : Context). record context { standing = standing }) same
@@ -308,30 +237,6 @@ module _ (count : ℕ) (did : List MailStep → Type 0) (line : Line) (doer : Pa
           asks = asks_is;
         })
 
-    -- it left the roster, and noted that
-    does_detach : (doing : Doing) (taken : SegsView) (told : List Listener) → 0 < doer.party.me
-        → IsToldByAddress doer.party.maps.rows doer.party.listeners told
-        → after ≡ with_standing (record doer.context.standing { attached = false }) (record doer { party = after_detaching told doer.party })
-        → did (takes_segments taken ∷ Notes Emptied ∷ gives_segments (after_leave doer.party.me taken) ∷ []) → Does [] count did doing doing before behind
-    unfolding Leads AreAsked
-    does_detach doing taken told secondary heard_is noted made =
-        subst (λ (after : ParticipantView). Does [] count did doing doing before (moment_of after later now heard)) (sym noted) (record {
-          trace = [];
-          steps = takes_segments taken ∷ Notes Emptied ∷ gives_segments (after_leave doer.party.me taken) ∷ [];
-          leads = refl;
-          made = made;
-          acts = Acts.detaches doer taken told secondary heard_is;
-          entries = λ heap. ap (λ (part : HeapPart). part.entries) (alike heap) ∙ sym (append-nil (parts heap).entries);
-          serves = λ heap. ap (λ (part : HeapPart). part.serves) (alike heap);
-          counted = known_but doer.context (record doer.context.standing { attached = false }) refl;
-          same = record { me = refl; socket = refl; plan = refl; deadline = refl };
-          asked = refl;
-          more = more;
-          log = log_is;
-          outcomes = others;
-          asks = asks_is;
-        })
-
     -- its line was done, once it noted what that left
     pub line_tried : line.act ≡ act.Attach → doer.context.standing.attached ≡ false → (taken : SegsView) (caught : Caught)
         → Attaches doer.party mid.party taken.log caught → mid.context ≡ doer.context
@@ -353,53 +258,13 @@ module _ (count : ℕ) (did : List MailStep → Type 0) (line : Line) (doer : Pa
         subst (λ (rest : Doing). Does [] count did (doing_of line line.act facts) rest before behind) answered
         (subst (λ (doing : Doing). Does [] count did doing (attached_with (length taken.log) caught) before behind) (sym tree)
         (does_attach taken caught attaches knew noted made)) in
-        record {
-          facts = facts;
-          known = known_none doer.party.socket doer.context line act.Attach its_act tt;
-          held = [];
-          once = once_none;
-          none = holds_none line.act;
-          mid = behind;
-          does = whole;
-          ended = ends_as_it_was line act.Attach given behind its_act tt;
-          left = ap (λ (doer : ParticipantView). doer.context.standing) noted
-              ∙ ap (λ (context : Context). standing_tried (length taken.log) caught context.standing) knew
-              ∙ standing_after line act.Attach given whole.trace doer.context.standing
-              (standing_tried (length taken.log) caught doer.context.standing) its_act
-              (tried_leaves line (length taken.log) caught given whole.trace doer.context.standing answered);
-        }
-
-    -- it left the roster, and noted that
-    pub line_left : line.act ≡ act.Detach → doer.context.standing.attached ≡ true → (taken : SegsView) (told : List Listener)
-        → 0 < doer.party.me → IsToldByAddress doer.party.maps.rows doer.party.listeners told
-        → did (takes_segments taken ∷ Notes Emptied ∷ gives_segments (after_leave doer.party.me taken) ∷ [])
-        → mid.party ≡ after_detaching told doer.party
-        → mid.context ≡ doer.context → after ≡ with_standing (record mid.context.standing { attached = false }) mid
-        → DoesLine count did line answer.Done before behind
-    unfolding doing_of
-    line_left its_act attached taken told secondary heard_is made mid_is knew noted =
-        let tree : doing_of line line.act facts ≡ Doing.Ended answer.Done =
-        ap (λ (deed : Act). doing_of line deed facts) its_act
-        ∙ ap (λ (attached : Bool). if_attached attached (Doing.Ended answer.Done)) attached in
-        let out : Party → Context → ParticipantView = λ party context.
-        record { party = party; context = record context { standing = record context.standing { attached = false } } } in
-        let left : after ≡ with_standing (record doer.context.standing { attached = false }) (record doer { party = after_detaching told doer.party }) =
-        noted ∙ ap (λ (party : Party). out party mid.context) mid_is ∙ ap (out (after_detaching told doer.party)) knew in
-        let whole : Does [] count did (doing_of line line.act facts) (Doing.Ended answer.Done) before behind =
-        subst (λ (doing : Doing). Does [] count did doing (Doing.Ended answer.Done) before behind) (sym tree)
-        (does_detach (Doing.Ended answer.Done) taken told secondary heard_is left made) in
-        record {
-          facts = facts;
-          known = known_none doer.party.socket doer.context line act.Detach its_act tt;
-          held = [];
-          once = once_none;
-          none = holds_none line.act;
-          mid = behind;
-          does = whole;
-          ended = ends_as_it_was line act.Detach answer.Done behind its_act tt;
-          left = ap (λ (doer : ParticipantView). doer.context.standing) left
-              ∙ standing_after line act.Detach answer.Done whole.trace doer.context.standing
-              (record doer.context.standing { attached = false }) its_act
-              (ap (λ (elements : List OwnElement). record doer.context.standing { attached = false; elements = elements })
-              (sym (append-nil doer.context.standing.elements)));
-        }
+        let whole_once : DoesApart count did (doing_of line line.act facts) (Doing.Ended given) before behind =
+        apart_nameless (doing_of line line.act facts) (Doing.Ended given) (subst (Only IsNameless) (sym tree) attaching_nameless) refl refl
+        (record { held = []; once = once_none; does = whole }) in
+        line_changed count did line given before behind facts act.Attach its_act tt tt
+        (known_none doer.party.socket doer.context line act.Attach its_act tt) whole_once refl tt
+        (ap (λ (doer : ParticipantView). doer.context.standing) noted
+        ∙ (ap (λ (context : Context). standing_tried (length taken.log) caught context.standing) knew
+        ∙ standing_after line act.Attach given whole_once.does.does.trace doer.context.standing
+        (standing_tried (length taken.log) caught doer.context.standing) its_act
+        (tried_leaves line (length taken.log) caught given whole_once.does.does.trace doer.context.standing answered)))

@@ -1,15 +1,19 @@
 -- The heaps that an allocation tries, by the heaps of the sockets.
-use Rattle.std.proofs.Common.{◌≡◌, ℕ, Bool, List, ◌++◌, map, filter, find, not, ◌&&◌, Option, Some, None, is_some, ap, ◌∙◌, sym}
+use Rattle.std.proofs.Common.{◌≡◌, ℕ, Bool, List, ◌++◌, map, filter, find, not, ◌&&◌, Option, Some, None, is_some, refl, ap, ◌∙◌, sym}
 use Rattle.std.specs.List.{All}
-use Rattle.std.specs.Option.{option_to_list}
+use Rattle.std.specs.Option.{option_map, option_to_list}
 use Rattle.std.proofs.lemmas.List.{map-append}
 use Rattle.std.proofs.lemmas.List.Elements.{All-append, All-filter}
 use Rattle.hp_segs.proofs.Finds.{find_mapped}
 use Rattle.hp_script.specs.declared.options.SocketChoice.{SocketChoice}
 use Rattle.hp_script.specs.declared.options.SocketChoice.TheVariants.{Any, Number}
 use Rattle.hp_proc.proofs.Mapped.{All-found, filter-mapped, map-listed}
-use Rattle.hp_proc.specs.Contexts.{is_of_socket, named_heap}
-use Rattle.hp_proc.specs.Heaps.{NamedHeap, heaps_for, own_first, takes_pages_of}
+use Rattle.hp_proc.specs.Contexts.{AreSocketHeaps, is_of_socket, named_heap, searched_heap}
+use Rattle.hp_proc.specs.Heaps.{NamedHeap, heaps_for, own_first, socket_heaps, takes_pages_of}
+use Rattle.hp_proc.specs.PlaceLists.{place_named}
+use Rattle.hp_proc.specs.declared.searched_heap.SearchedHeap.{SearchedHeap}
+use Rattle.hp_proc.proofs.SocketHeapLemmas.{places_named}
+use Rattle.hp_base.specs.declared.pool_line.PoolLine.{PoolLine}
 use Rattle.hp_proc.specs.declared.socket_heap.SocketHeap.{SocketHeap}
 
 -- that of a socket
@@ -32,6 +36,24 @@ chosen_any own heaps places named are is =
     (sym (filter-mapped (takes_pages_of own) named_heap heaps))
     ∙ (ap (λ (rest : List NamedHeap). filter (takes_pages_of own) (map named_heap heaps) ++ rest) (sym (filter-mapped other named_heap heaps))
     ∙ ap (own_first own) are)))
+
+-- so they are as places
+pub places_number : (own socket : ℕ) (pools : List PoolLine) (heaps : List SocketHeap) (found : Option SearchedHeap) → AreSocketHeaps pools heaps
+    → found ≡ option_map searched_heap (find (is_of_socket socket) heaps)
+    → option_to_list found ≡ map place_named (heaps_for own (socket_heaps pools) None (Number socket))
+places_number own socket pools heaps found are is =
+    let one = find (is_of_socket socket) heaps in
+    ap option_to_list is
+    ∙ (sym (map-listed searched_heap one)
+    ∙ (places_named (option_to_list one)
+    ∙ ap (map place_named) (chosen_number own socket heaps (option_to_list one) (socket_heaps pools) are refl)))
+
+pub places_any : (own : ℕ) (pools : List PoolLine) (heaps : List SocketHeap) (places : List SearchedHeap) → AreSocketHeaps pools heaps
+    → places ≡ map searched_heap (filter (is_of_socket own) heaps ++ filter (λ (heap : SocketHeap). not (is_of_socket own heap)) heaps)
+    → places ≡ map place_named (heaps_for own (socket_heaps pools) None Any)
+places_any own pools heaps places are is =
+    let all = filter (is_of_socket own) heaps ++ filter (λ (heap : SocketHeap). not (is_of_socket own heap)) heaps in
+    is ∙ (places_named all ∙ ap (map place_named) (chosen_any own heaps all (socket_heaps pools) are refl))
 
 -- what holds of all heaps holds of those that are tried
 pub All-heaps_for : (P : NamedHeap → Type 0) (own : ℕ) (heaps : List NamedHeap) (name : Option (List ℕ)) (choice : SocketChoice)

@@ -1,6 +1,7 @@
 -- A call that brings and takes no chunk, and sets and clears no mark, leaves the chunks of a heap, and so does what else leaves its plain value.
 use Rattle.std.proofs.Common.{◌≡◌, ◌∙◌, ℕ, List, map, ap, refl}
 use Rattle.std.specs.List.{filter}
+use Rattle.std.specs.Prelude.{⊤}
 use Rattle.hp_base.specs.Flags.{has_bit}
 use Rattle.hp_base.specs.declared.chunk.Chunk.{Chunk}
 use Rattle.hp_base.specs.declared.tag.Caller.{Caller}

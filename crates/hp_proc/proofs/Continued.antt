@@ -3,7 +3,7 @@ use Rattle.std.proofs.Common.{◌≡◌, ◌∙◌, ℕ, List, [], ◌∷◌, Op
 use Rattle.hp_script.specs.declared.answer.Answer.{Answer}
 use Rattle.hp_proc.specs.Courses.{OwnCall, calls_in, last_heap}
 use Rattle.hp_proc.specs.Doing.{Deed, Doing, Done, Given, Goes, Leads, gave}
-use Rattle.hp_proc.specs.Doing.Deed.{Ask, Call, CatchUp, ChangeNames, GiveUp, Look, MapChunk, ReadNames, ReadStats, SeeHeap}
+use Rattle.hp_proc.specs.Doing.Deed.{Ask, Call, CatchUp, ChangeNames, GiveUp, Look, MapChunk, PlanRange, ReadNames, ReadStats, SeeHeap}
 use Rattle.hp_proc.specs.Doing.Doing.{Ended, Then}
 use Rattle.hp_proc.specs.VerbLaws.{GoesOnFrom}
 use Rattle.hp_proc.specs.ZoneLines.{continued, last_called}
@@ -31,6 +31,7 @@ last_behind (CatchUp to) found last trace = refl
 last_behind ReadNames found last trace = refl
 last_behind (ChangeNames change) found last trace = refl
 last_behind (SeeHeap heap) found last trace = refl
+last_behind (PlanRange addr len page) found last trace = refl
 last_behind (MapChunk chunk) found last trace = refl
 last_behind (ReadStats heap) found last trace = refl
 
@@ -45,6 +46,17 @@ module _ (more : Option ℕ → Answer → Doing) (given : Answer) where
       let same : last_from (last_called last deed) (calls_in trace) ≡ last_from last (calls_in (done ∷ trace)) =
       sym (last_behind deed found last trace) ∙ ap (λ (first : Done). last_from last (calls_in (first ∷ trace))) (sym is) in
       (found, is, subst (λ (heap : Option ℕ). Leads (continued more (last_called last deed) (next found)) trace (more heap given)) same rest)
+
+-- so it is with what leads to a rest that is not the end
+module _ (more : Option ℕ → Answer → Doing) where
+  pub continues : (doing : Doing) (trace : List Done) (last : Option ℕ) (rest : Doing) → Leads doing trace rest
+      → (heap : Option ℕ) × Leads (continued more last doing) trace (continued more heap rest)
+  unfolding Leads Goes continued
+  continues doing [] last rest is = (last, ap (continued more last) is)
+  continues (Ended other) (done ∷ trace) last rest leads = elim leads [ ]
+  continues (Then deed next) (done ∷ trace) last rest (found, is, leads) =
+      let on = continues (next found) trace (last_called last deed) rest leads in
+      (on.0, (found, is, on.1))
 
 pub goes_on_from : GoesOnFrom
 goes_on_from more doing trace given leads =

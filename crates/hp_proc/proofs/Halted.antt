@@ -1,5 +1,5 @@
 -- What was done of a line that ends without an answer joins with what was done before and after it.
-use Rattle.std.proofs.Common.{◌≡◌, ◌∙◌, ℕ, ◌+◌, List, [], ◌∷◌, ◌++◌, length, append-nil, append_assoc, None, refl, ap, sym, subst, ◌<◌, drop, get_or, map, take}
+use Rattle.std.proofs.Common.{◌≡◌, ◌∙◌, ℕ, ◌+◌, List, [], ◌∷◌, ◌++◌, length, append-nil, append_assoc, Option, None, refl, ap, sym, subst, ◌<◌, drop, get_or, map, take}
 use Rattle.std.proofs.lemmas.List.{length-append}
 use Rattle.hp_hall.specs.HallState.{HallState}
 use Rattle.hp_hall.specs.Mail.{MailStep}
@@ -23,7 +23,8 @@ use Rattle.hp_proc.specs.Progress.{AreOnce, Does, Moment, doer_at}
 use Rattle.hp_proc.proofs.HallMoments.{told_alike}
 use Rattle.hp_proc.proofs.Joining.{calls_on, context_joined, context_still, does_same, entries_joined, goes_as}
 use Rattle.hp_proc.proofs.LawLemmas.{leads_on}
-use Rattle.hp_proc.proofs.HandFacts.OnceHeld.{heaps_more, heaps_whole}
+use Rattle.hp_proc.proofs.HandFacts.OnceHeld.{heaps_more, heaps_whole, once_none}
+use Rattle.hp_proc.proofs.LinesOrdered.{halts_ordered}
 
 -- what was done of an answered line, as a front
 pub halts_of : {held : List ℕ} (count : ℕ) (did : List MailStep → Type 0) (doing rest : Doing) (old new : Moment)
@@ -203,15 +204,27 @@ halts_within heaps more count did doing old new halts = record {
 
 -- what was done of a line's tree, by what is known when it begins
 pub line_halted : (count : ℕ) (did : List MailStep → Type 0) (line : Line) (old new : Moment) (facts : Facts)
-    → AreFactsOf old.party.socket old.context line facts → (doing : Doing) → doing ≡ doing_of line line.act facts
+    → AreFactsOf old.party.socket old.context line facts → (doing : Doing) → doing ≡ doing_of line line.act facts → old.hand ≡ None
     → (heaps : List ℕ) × AreOnce heaps × Halts heaps count did doing old new → HaltsLine count did line old new
-line_halted count did line old new facts known doing is stopped = record {
-  facts = facts;
-  known = known;
-  heaps = stopped.0;
-  once = stopped.1;
-  halts = subst (λ (doing : Doing). Halts stopped.0 count did doing old new) is stopped.2;
-}
+line_halted count did line old new facts known doing is empty stopped =
+    let halts : Halts stopped.0 count did (doing_of line line.act facts) old new =
+    subst (λ (doing : Doing). Halts stopped.0 count did doing old new) is stopped.2 in
+    record {
+      facts = facts;
+      known = known;
+      heaps = stopped.0;
+      once = stopped.1;
+      halts = halts;
+      order = halts_ordered count
+          (subst (λ (hand : Option ℕ). ActsOn count hand new.hand halts.held (doer_at old) (doer_at new) halts.trace halts.steps) empty halts.acts);
+    }
+
+-- nothing was done of it
+pub nothing_halts : (count : ℕ) (did : List MailStep → Type 0) (line : Line) (moment : Moment) (facts : Facts) → did []
+    → AreFactsOf moment.party.socket moment.context line facts → moment.hand ≡ None → HaltsLine count did line moment moment
+nothing_halts count did line moment facts none known empty =
+    line_halted count did line moment moment facts known (doing_of line line.act facts) refl empty
+    ([], once_none, halts_same [] count did (doing_of line line.act facts) moment none)
 
 -- it stopped over one of some places, after those before it
 pub halts_among : {X : Type 0} (heap_of : X → ℕ) (places : List X) (index : ℕ) (place : X) (count : ℕ) (did : List MailStep → Type 0) (doing : Doing)

@@ -96,16 +96,16 @@ context_joined calls more old mid new here there =
 module _ {held more : List ℕ} (count : ℕ) (here_did there_did did : List MailStep → Type 0) (doing left rest : Doing) (old mid new : Moment)
     (join : (first second : List MailStep) → here_did first → there_did second → did (first ++ second))
     (here : Does held count here_did doing left old mid) (there : Does more count there_did left rest mid new) where
-  abbrev whole : List Done
+  abbrev pub whole : List Done
   whole = here.trace ++ there.trace
 
-  calls_are : calls_in whole ≡ calls_in here.trace ++ calls_in there.trace
+  pub calls_are : calls_in whole ≡ calls_in here.trace ++ calls_in there.trace
   calls_are = calls_on here.trace there.trace
 
-  length_is : length (calls_in here.trace) + length (calls_in there.trace) ≡ length (calls_in whole)
+  pub length_is : length (calls_in here.trace) + length (calls_in there.trace) ≡ length (calls_in whole)
   length_is = sym (ap (λ (calls : List OwnCall). length calls) calls_are ∙ length-append (calls_in here.trace) (calls_in there.trace))
 
-  entries_are : (heap : ℕ) → (new.parts heap).entries
+  pub entries_are : (heap : ℕ) → (new.parts heap).entries
       ≡ (old.parts heap).entries ++ entries_for old.party.me heap (old.context.calls + 1) (calls_in whole)
   entries_are heap =
       entries_joined old.party.me mid.party.me heap old.context.calls mid.context.calls (calls_in here.trace) (calls_in there.trace)
@@ -113,7 +113,7 @@ module _ {held more : List ℕ} (count : ℕ) (here_did there_did did : List Mai
       (ap (λ (context : Context). context.calls) here.counted) (here.entries heap) (there.entries heap)
       ∙ ap (λ (calls : List OwnCall). (old.parts heap).entries ++ entries_for old.party.me heap (old.context.calls + 1) calls) (sym calls_are)
 
-  asked_all : AreAsked new.log new.asks old.party.me old.party.asked new.party.asked whole
+  pub asked_all : AreAsked new.log new.asks old.party.me old.party.asked new.party.asked whole
   asked_all =
       asked_on new.log new.asks old.party.me old.party.asked mid.party.asked new.party.asked here.trace there.trace
       (subst (λ (log : List LogRecord). AreAsked log new.asks old.party.me old.party.asked mid.party.asked here.trace) (sym there.log)
@@ -122,7 +122,7 @@ module _ {held more : List ℕ} (count : ℕ) (here_did there_did did : List Mai
       (subst (λ (who : ℕ). AreAsked new.log new.asks who mid.party.asked new.party.asked there.trace) here.same.me there.asked)
 
   -- what was done, and what was done after it
-  pub does_then : Does (held ++ more) count did doing rest old new
+  unfoldable pub does_then : Does (held ++ more) count did doing rest old new
   does_then = record {
     trace = whole;
     steps = here.steps ++ there.steps;
@@ -161,7 +161,7 @@ context_still old new same =
     (ap (λ (calls : ℕ). record old { calls = calls }) (omega arith))
 
 -- nothing of its line was done but that heaps were taken and given, while the log and the outcomes went on
-pub does_still : {held : List ℕ} (count : ℕ) (did : List MailStep → Type 0) (doing : Doing) (old new : Moment) (steps : List MailStep)
+unfoldable pub does_still : {held : List ℕ} (count : ℕ) (did : List MailStep → Type 0) (doing : Doing) (old new : Moment) (steps : List MailStep)
     → did steps → Acts count old.hand new.hand held (doer_at old) (doer_at new) [] steps
     → ((heap : ℕ) → (new.parts heap).entries ≡ (old.parts heap).entries)
     → ((heap : ℕ) → (new.parts heap).serves ≡ (old.parts heap).serves) → IsSameParty old.party new.party
@@ -186,7 +186,7 @@ does_still {held} count did doing old new steps made acts entries serves same kn
 }
 
 -- nothing was done
-pub does_same : (count : ℕ) (did : List MailStep → Type 0) (doing : Doing) (moment : Moment) → did []
+unfoldable pub does_same : (count : ℕ) (did : List MailStep → Type 0) (doing : Doing) (moment : Moment) → did []
     → Does [] count did doing doing moment moment
 does_same count did doing moment none =
     does_still count did doing moment moment [] none (Acts.nothing moment.hand (doer_at moment)) (λ heap. refl) (λ heap. refl)

@@ -1,6 +1,6 @@
--- What is known when a line begins, where no request of it was accepted so far, and what a line leaves that brings no element.
-use Rattle.std.proofs.Common.{◌≡◌, ◌≢◌, ◌∙◌, ℕ, ◌^◌, ◌<◌, Bool, true, false, cond, not, ◌||◌, ◌==◌, List, [], ◌∷◌, ◌++◌, append-nil, Option, Some, None, refl, ap, sym, subst, arith}
-use Rattle.std.specs.Prelude.{find, nat_le, ⊤}
+-- What is known when a line begins, and what a line leaves that brings no element.
+use Rattle.std.proofs.Common.{◌≡◌, ◌∙◌, ℕ, ◌^◌, ◌<◌, Bool, true, false, cond, not, ◌||◌, ◌==◌, List, [], ◌∷◌, ◌++◌, append-nil, Option, Some, None, refl, ap, sym, subst, arith, inl}
+use Rattle.std.specs.Prelude.{nat_le, ⊤}
 use Rattle.std.proofs.lemmas.Bool.{leb-false}
 use Rattle.std.proofs.lemmas.Bool.Decides.{nat_tests}
 use Rattle.hp_base.proofs.RequestLemmas.{accepted_is}
@@ -10,26 +10,29 @@ use Rattle.hp_base.specs.declared.request.BadRequest.{BadRequest}
 use Rattle.hp_base.specs.declared.request.BadRequest.TheVariants as bad
 use Rattle.hp_base.specs.declared.request.Request.{Request}
 use Rattle.hp_hall.specs.Mail.{MailStep}
-use Rattle.hp_script.specs.ShapeWords.Acts.{label_used}
 use Rattle.hp_script.specs.declared.answer.Answer.{Answer}
 use Rattle.hp_script.specs.declared.answer.Answer.TheVariants as answer
 use Rattle.hp_script.specs.declared.line.Act.{Act}
 use Rattle.hp_script.specs.declared.line.Act.TheVariants as act
 use Rattle.hp_script.specs.declared.line.Line.{Line}
 use Rattle.hp_script.specs.declared.options.Options.{Options}
-use Rattle.hp_proc.specs.LineTrees.{doing_of}
+use Rattle.hp_proc.specs.Acting.{Acts}
+use Rattle.hp_proc.specs.Awaiting.{HasAwaited}
 use Rattle.hp_proc.specs.Contexts.{AreFactsOf, Context}
-use Rattle.hp_proc.specs.Courses.{HasRequest, IsRequestFor, Standing, after_line, attached_after, element_brought, heap_of_element, maker_for, records_after}
+use Rattle.hp_proc.specs.Courses.{HasLineRequest, IsRequestFor, Standing, after_line, attached_after, chunks_after, element_brought, heap_of_element, maker_for, name_meant, records_after}
 use Rattle.hp_proc.specs.Doing.{Doing, Done}
-use Rattle.hp_proc.specs.Heaps.{has_name, socket_heaps}
-use Rattle.hp_proc.proofs.LineEnds.{RegistersNone, ends_as_it_was, ends_detached}
-use Rattle.hp_proc.proofs.Joining.{does_same}
-use Rattle.hp_proc.proofs.HandFacts.OnceHeld.{once_none, once_one}
-use Rattle.hp_proc.specs.Freeing.{freeing, if_sized, looking, resize_refusal, resizing_to}
-use Rattle.hp_proc.specs.Lines.{Facts, allocating, by_heaps, dumping, if_attached, on_element, reading_stats, tag_of}
+use Rattle.hp_proc.specs.LineTrees.{doing_of}
+use Rattle.hp_proc.specs.Lines.{Facts}
+use Rattle.hp_proc.specs.LockOrder.{GivesNamesFirst, HoldsNamesAsMay}
+use Rattle.hp_proc.specs.NamesOfLines.{NamesOfLine}
 use Rattle.hp_proc.specs.ParticipantView.{with_calls}
-use Rattle.hp_proc.specs.Registering.{limiting, unlimiting, unwatching, validators_after, watchers_after, watching}
-use Rattle.hp_proc.specs.Progress.{Does, DoesLine, DoesOnce, HoldsNone, Moment}
+use Rattle.hp_proc.specs.Progress.{Does, DoesApart, DoesLine, DoesOnce, HoldsNone, IsInside, Moment, doer_at}
+use Rattle.hp_proc.specs.Registering.{validators_after, watchers_after}
+use Rattle.hp_proc.specs.declared.own_element.OwnElement.{OwnElement}
+use Rattle.hp_proc.proofs.HandFacts.OnceHeld.{once_none, once_one}
+use Rattle.hp_proc.proofs.Joining.{does_same, does_still}
+use Rattle.hp_proc.proofs.LineEnds.{RegistersNone, ends_as_it_was, ends_detached}
+use Rattle.hp_proc.proofs.LinesOrdered.{acts_apart, acts_ordered, acts_told, names_first}
 
 -- a test that refuses nothing fails, and the next ones refuse nothing
 refusing : (test : Bool) (kind : BadRequest) (rest : Option BadRequest) → cond test (Some kind) rest ≡ None → (test ≡ false) × (rest ≡ None)
@@ -76,24 +79,11 @@ request_by size options None is =
     } in
     (Some request, λ none. (request, refl, record { size_is = refl; align_is = refl; bound_is = refl; flags_are = refl }))
 
--- a line that neither attaches nor detaches
-abbrev pub IsLineOfOne : Act → Type 0
-IsLineOfOne deed = (deed ≢ act.Attach) × (deed ≢ act.Detach)
-
--- each line of a participant that is alone has its request, where it is one that has one
-pub has_request : (deed : Act) → IsLineOfOne deed → (request : Option Request) × HasRequest deed request
-has_request (act.Alloc label size options) built = request_by size options (refusal_of size options.align options.bound) refl
-has_request (act.Free label) built = (None, tt)
-has_request (act.Resize label size) built = (None, tt)
-has_request (act.Dump heap) built = (None, tt)
-has_request (act.Stats heap) built = (None, tt)
-has_request (act.Watch name) built = (None, tt)
-has_request (act.Unwatch name) built = (None, tt)
-has_request (act.Limit name socket bytes allow) built = (None, tt)
-has_request (act.Unlimit name socket) built = (None, tt)
-has_request act.Attach (built, other, stays) = absurd (other refl)
-has_request act.Detach (built, other, stays) = absurd (stays refl)
-has_request _ (built, other, stays) = absurd cc
+-- each line has its request, where it is one that has one
+pub has_request : (deed : Act) → (request : Option Request) × HasLineRequest deed request
+has_request (act.Alloc label size options) = request_by size options (refusal_of size options.align options.bound) refl
+has_request (act.Zone name len options) = request_by len options (refusal_of len options.align options.bound) refl
+has_request _ = (None, tt)
 
 -- what is known when a line begins
 abbrev pub facts_for : ℕ → Context → Act → Option Request → Facts
@@ -102,13 +92,14 @@ facts_for socket context deed request = record {
   own_socket = socket;
   pools = context.pools;
   request = request;
-  maker = maker_for context.lines (label_used deed);
-  own_heap = heap_of_element context.pools context.standing.elements (maker_for context.lines (label_used deed));
+  maker = maker_for context.lines (name_meant deed);
+  own_heap = heap_of_element context.pools context.standing.elements (maker_for context.lines (name_meant deed));
+  chunks = context.standing.chunks;
   watchers = context.standing.watchers;
   validators = context.standing.validators;
 }
 
-pub facts_known : (socket : ℕ) (context : Context) (line : Line) (request : Option Request) → HasRequest line.act request
+pub facts_known : (socket : ℕ) (context : Context) (line : Line) (request : Option Request) → HasLineRequest line.act request
     → AreFactsOf socket context line (facts_for socket context line.act request)
 facts_known socket context line request has = record {
   attached = refl;
@@ -117,74 +108,64 @@ facts_known socket context line request has = record {
   request = has;
   maker = refl;
   own_heap = refl;
+  chunks = refl;
   watchers = refl;
   validators = refl;
 }
 
--- a line that brings no element leaves what earlier lines left
+-- a line that brings no element, changes no chunk that is attached, and registers nothing, leaves what earlier lines left
 abbrev pub BringsNone : Act → Type 0
-BringsNone (act.Free label) = ⊤
-BringsNone (act.Resize label size) = ⊤
-BringsNone (act.Dump heap) = ⊤
-BringsNone (act.Stats heap) = ⊤
-BringsNone _ = ⊥
+BringsNone (act.Alloc label size options) = ⊥
+BringsNone act.Attach = ⊥
+BringsNone act.Detach = ⊥
+BringsNone (act.Map heap addr len) = ⊥
+BringsNone (act.Unmap heap addr len) = ⊥
+BringsNone (act.Watch name) = ⊥
+BringsNone (act.Unwatch name) = ⊥
+BringsNone (act.Limit name socket bytes allow) = ⊥
+BringsNone (act.Unlimit name socket) = ⊥
+BringsNone _ = ⊤
 
 -- and registers none
 registers_none : (deed : Act) → BringsNone deed → RegistersNone deed
-registers_none (act.Free label) none = tt
-registers_none (act.Resize label size) none = tt
-registers_none (act.Dump heap) none = tt
-registers_none (act.Stats heap) none = tt
-registers_none _ none = absurd none
+registers_none (act.Watch name) none = absurd none
+registers_none (act.Unwatch name) none = absurd none
+registers_none (act.Limit name socket bytes allow) none = absurd none
+registers_none (act.Unlimit name socket) none = absurd none
+registers_none _ none = tt
+
+-- what is left of what earlier lines left
+abbrev standing_left : Line → Act → Answer → List Done → Standing → Standing
+standing_left line deed given trace standing = record {
+  attached = attached_after deed given standing.attached;
+  records = records_after deed given standing.records;
+  elements = standing.elements ++ element_brought line deed given trace;
+  chunks = chunks_after deed given trace standing.chunks;
+  watchers = watchers_after deed given standing.watchers;
+  validators = validators_after deed given standing.validators;
+}
 
 leaves_standing : (line : Line) (deed : Act) → BringsNone deed → (given : Answer) (trace : List Done) (standing : Standing)
-    → record {
-      attached = attached_after deed given standing.attached;
-      records = records_after deed given standing.records;
-      elements = standing.elements ++ element_brought line deed given trace;
-      watchers = watchers_after deed given standing.watchers;
-      validators = validators_after deed given standing.validators;
-    } ≡ standing
-leaves_standing line (act.Free label) none given trace standing =
-    ap (λ elements. record standing { elements = elements }) (append-nil standing.elements)
-leaves_standing line (act.Resize label size) none given trace standing =
-    ap (λ elements. record standing { elements = elements }) (append-nil standing.elements)
-leaves_standing line (act.Dump heap) none given trace standing =
-    ap (λ elements. record standing { elements = elements }) (append-nil standing.elements)
-leaves_standing line (act.Stats heap) none given trace standing =
-    ap (λ elements. record standing { elements = elements }) (append-nil standing.elements)
-leaves_standing line _ none given trace standing = absurd none
+    → standing_left line deed given trace standing ≡ standing
+leaves_standing line (act.Alloc label size options) none given trace standing = absurd none
+leaves_standing line act.Attach none given trace standing = absurd none
+leaves_standing line act.Detach none given trace standing = absurd none
+leaves_standing line (act.Map heap addr len) none given trace standing = absurd none
+leaves_standing line (act.Unmap heap addr len) none given trace standing = absurd none
+leaves_standing line (act.Watch name) none given trace standing = absurd none
+leaves_standing line (act.Unwatch name) none given trace standing = absurd none
+leaves_standing line (act.Limit name socket bytes allow) none given trace standing = absurd none
+leaves_standing line (act.Unlimit name socket) none given trace standing = absurd none
+leaves_standing line _ none given trace standing =
+    ap (λ (elements : List OwnElement). record standing { elements = elements }) (append-nil standing.elements)
 
 -- so does one that is answered by who is not attached
-detached_leaves : (line : Line) (deed : Act) → IsLineOfOne deed → (trace : List Done) (standing : Standing)
-    → record {
-      attached = attached_after deed answer.Detached standing.attached;
-      records = records_after deed answer.Detached standing.records;
-      elements = standing.elements ++ element_brought line deed answer.Detached trace;
-      watchers = watchers_after deed answer.Detached standing.watchers;
-      validators = validators_after deed answer.Detached standing.validators;
-    } ≡ standing
-detached_leaves line (act.Alloc label size options) built trace standing =
-    ap (λ elements. record standing { elements = elements }) (append-nil standing.elements)
-detached_leaves line (act.Free label) built trace standing =
-    ap (λ elements. record standing { elements = elements }) (append-nil standing.elements)
-detached_leaves line (act.Resize label size) built trace standing =
-    ap (λ elements. record standing { elements = elements }) (append-nil standing.elements)
-detached_leaves line (act.Dump heap) built trace standing =
-    ap (λ elements. record standing { elements = elements }) (append-nil standing.elements)
-detached_leaves line (act.Stats heap) built trace standing =
-    ap (λ elements. record standing { elements = elements }) (append-nil standing.elements)
-detached_leaves line (act.Watch name) built trace standing =
-    ap (λ elements. record standing { elements = elements }) (append-nil standing.elements)
-detached_leaves line (act.Unwatch name) built trace standing =
-    ap (λ elements. record standing { elements = elements }) (append-nil standing.elements)
-detached_leaves line (act.Limit name socket bytes allow) built trace standing =
-    ap (λ elements. record standing { elements = elements }) (append-nil standing.elements)
-detached_leaves line (act.Unlimit name socket) built trace standing =
-    ap (λ elements. record standing { elements = elements }) (append-nil standing.elements)
-detached_leaves line act.Attach (built, other, stays) trace standing = absurd (other refl)
-detached_leaves line act.Detach (built, other, stays) trace standing = absurd (stays refl)
-detached_leaves line _ (built, other, stays) trace standing = absurd cc
+detached_leaves : (line : Line) (deed : Act) (trace : List Done) (standing : Standing)
+    → standing_left line deed answer.Detached trace standing ≡ standing
+detached_leaves line act.Attach trace standing =
+    ap (λ (elements : List OwnElement). record standing { elements = elements }) (append-nil standing.elements)
+detached_leaves line _ trace standing =
+    ap (λ (elements : List OwnElement). record standing { elements = elements }) (append-nil standing.elements)
 
 module _ (before after : Context) (same : after ≡ with_calls after.calls before) (line : Line) (given : Answer)
     (trace : List Done) where
@@ -194,7 +175,8 @@ module _ (before after : Context) (same : after ≡ with_calls after.calls befor
   -- what a line left that brings no element
   pub left_behind : (deed : Act) → line.act ≡ deed → BringsNone deed
       → after.standing ≡ after_line line given trace before.standing
-  left_behind deed is none = standing_is
+  left_behind deed is none =
+      standing_is
       ∙ sym (leaves_standing line line.act (subst BringsNone (sym is) none) given trace before.standing)
 
 -- what holds no heap holds none for statistics
@@ -202,39 +184,84 @@ pub holds_none : (deed : Act) → HoldsNone deed []
 holds_none (act.Stats heap) = refl
 holds_none _ = tt
 
--- a line that brings no element was done, by what was known of it
-pub line_done : (count : ℕ) (did : List MailStep → Type 0) (line : Line) (given : Answer) (old new : Moment) (facts : Facts) (deed : Act)
+-- who gives the names back first does so as its line may
+pub hands_first : (deed : Act) (steps : List MailStep) → GivesNamesFirst steps → HoldsNamesAsMay deed steps
+hands_first (act.Zone name len options) steps first = tt
+hands_first (act.Unzone name) steps first = tt
+hands_first (act.Heap name) steps first = tt
+hands_first (act.Unheap name) steps first = tt
+hands_first (act.Add heap addr len page) steps first = tt
+hands_first (act.Remove heap addr len) steps first = tt
+hands_first (act.Map heap addr len) steps first = tt
+hands_first (act.Unmap heap addr len) steps first = tt
+hands_first _ steps first = first
+
+-- a line that brings no element was done, by what was known of it; it had the names in hand as it may, and awaited others, where it does
+pub line_whole : (count : ℕ) (did : List MailStep → Type 0) (line : Line) (given : Answer) (old new : Moment) (facts : Facts) (deed : Act)
     → AreFactsOf old.party.socket old.context line facts
     → (done : DoesOnce count did (doing_of line line.act facts) (Doing.Ended given) old new)
+    → NamesOfLine done.does.trace done.does.steps → HoldsNamesAsMay line.act done.does.steps → HasAwaited line.act done.does.steps
+    → old.hand ≡ None
     → new.context ≡ with_calls new.context.calls old.context → line.act ≡ deed → BringsNone deed → HoldsNone deed done.held
     → DoesLine count did line given old new
-line_done count did line given old new facts deed known done same is none holds = record {
-  facts = facts;
-  known = known;
-  held = done.held;
-  once = done.once;
-  none = subst (λ (deed : Act). HoldsNone deed done.held) (sym is) holds;
-  mid = new;
-  does = done.does;
-  ended = ends_as_it_was line deed given new is (registers_none deed none);
-  left = left_behind old.context new.context same line given done.does.trace deed is none;
-}
+line_whole count did line given old new facts deed known done names hands awaited empty same is none holds =
+    let acts : Acts count None new.hand done.held (doer_at old) (doer_at new) done.does.trace done.does.steps =
+    subst (λ (hand : Option ℕ). Acts count hand new.hand done.held (doer_at old) (doer_at new) done.does.trace done.does.steps) empty done.does.acts in
+    record {
+      facts = facts;
+      known = known;
+      held = done.held;
+      once = done.once;
+      none = subst (λ (deed : Act). HoldsNone deed done.held) (sym is) holds;
+      mid = new;
+      does = done.does;
+      names = names;
+      order = acts_ordered acts;
+      hands = hands;
+      tells = acts_told acts;
+      awaited = awaited;
+      ended = ends_as_it_was line deed given new is (registers_none deed none);
+      left = left_behind old.context new.context same line given done.does.trace deed is none;
+    }
 
--- and so was one on which no heap was held
+-- a line awaits nobody
+abbrev pub AwaitsNone : Act → Type 0
+AwaitsNone (act.Await other lines) = ⊥
+AwaitsNone _ = ⊤
+
+pub awaits_none : (deed : Act) (steps : List MailStep) → AwaitsNone deed → HasAwaited deed steps
+awaits_none (act.Await other lines) steps none = absurd none
+awaits_none _ steps none = tt
+
+-- one that gave the names back before it took a heap
+pub line_done : (count : ℕ) (did : List MailStep → Type 0) (line : Line) (given : Answer) (old new : Moment) (facts : Facts) (deed : Act)
+    → AreFactsOf old.party.socket old.context line facts
+    → (done : DoesApart count did (doing_of line line.act facts) (Doing.Ended given) old new) → old.hand ≡ None
+    → new.context ≡ with_calls new.context.calls old.context → line.act ≡ deed → BringsNone deed → AwaitsNone deed
+    → HoldsNone deed done.does.held → DoesLine count did line given old new
+line_done count did line given old new facts deed known done empty same is none alone holds =
+    line_whole count did line given old new facts deed known done.does done.names (hands_first line.act done.does.does.steps done.apart)
+    (awaits_none line.act done.does.does.steps (subst AwaitsNone (sym is) alone)) empty same is none holds
+
+-- what was done with no heap gives the names back first
+pub apart_idle : {count : ℕ} {did : List MailStep → Type 0} {doing rest : Doing} {old new : Moment} → old.hand ≡ None → new.hand ≡ None
+    → (does : Does [] count did doing rest old new) → GivesNamesFirst does.steps
+apart_idle {count} {did} {doing} {rest} {old} {new} empty ends does =
+    names_first does.steps
+    (acts_apart
+    (subst (λ (hand : Option ℕ). Acts count hand None [] (doer_at old) (doer_at new) does.trace does.steps) empty
+    (subst (λ (hand : Option ℕ). Acts count old.hand hand [] (doer_at old) (doer_at new) does.trace does.steps) ends does.acts)) (inl refl))
+
+-- and one on which no heap was held
 pub line_idle : (count : ℕ) (did : List MailStep → Type 0) (line : Line) (given : Answer) (old new : Moment) (facts : Facts) (deed : Act)
-    → AreFactsOf old.party.socket old.context line facts → Does [] count did (doing_of line line.act facts) (Doing.Ended given) old new
-    → new.context ≡ with_calls new.context.calls old.context → line.act ≡ deed → BringsNone deed → DoesLine count did line given old new
-line_idle count did line given old new facts deed known does same is none = record {
-  facts = facts;
-  known = known;
-  held = [];
-  once = once_none;
-  none = holds_none line.act;
-  mid = new;
-  does = does;
-  ended = ends_as_it_was line deed given new is (registers_none deed none);
-  left = left_behind old.context new.context same line given does.trace deed is none;
-}
+    → AreFactsOf old.party.socket old.context line facts → (does : Does [] count did (doing_of line line.act facts) (Doing.Ended given) old new)
+    → NamesOfLine does.trace does.steps → old.hand ≡ None → new.hand ≡ None
+    → new.context ≡ with_calls new.context.calls old.context → line.act ≡ deed → BringsNone deed → AwaitsNone deed
+    → DoesLine count did line given old new
+line_idle count did line given old new facts deed known does names empty ends same is none alone =
+    line_done count did line given old new facts deed known
+    (record { does = record { held = []; once = once_none; does = does }; names = names; apart = apart_idle empty ends does }) empty same is none
+    alone (holds_none deed)
 
 -- what was done with no heap, or with one alone
 pub done_once : (count : ℕ) (did : List MailStep → Type 0) (doing rest : Doing) (old new : Moment) → Does [] count did doing rest old new
@@ -245,43 +272,49 @@ pub done_one : (heap count : ℕ) (did : List MailStep → Type 0) (doing rest :
     → DoesOnce count did doing rest old new
 done_one heap count did doing rest old new does = record { held = heap ∷ []; once = once_one heap; does = does }
 
+-- nothing was done
+pub record IsNothing (count : ℕ) (did : List MailStep → Type 0) (doing rest : Doing) (moment : Moment) : Type 0 where
+  pub does : Does [] count did doing rest moment moment
+  pub names : NamesOfLine does.trace does.steps
+  pub apart : GivesNamesFirst does.steps
+
+pub nothing_done : (count : ℕ) (did : List MailStep → Type 0) (doing : Doing) (moment : Moment) → did [] → IsNothing count did doing doing moment
+unfolding does_same does_still
+nothing_done count did doing moment none =
+    record { does = does_same count did doing moment none; names = NamesOfLine.none refl refl refl; apart = tt }
+
+pub apart_same : (count : ℕ) (did : List MailStep → Type 0) (doing : Doing) (moment : Moment) → did []
+    → DoesApart count did doing doing moment moment
+apart_same count did doing moment none =
+    let nothing = nothing_done count did doing moment none in
+    record { does = record { held = []; once = once_none; does = nothing.does }; names = nothing.names; apart = nothing.apart }
+
 -- the tree of a line whose participant is not attached
-detached_ends : (line : Line) (deed : Act) → IsLineOfOne deed → (facts : Facts) → facts.attached ≡ false
+detached_ends : (line : Line) (deed : Act) → IsInside deed → (facts : Facts) → facts.attached ≡ false
     → doing_of line deed facts ≡ Doing.Ended answer.Detached
 unfolding doing_of
-detached_ends line (act.Alloc label size options) built facts is =
-    ap (λ (attached : Bool). if_attached attached (allocating facts (tag_of line) size options)) is
-detached_ends line (act.Free label) built facts is =
-    ap (λ (attached : Bool). if_attached attached (on_element line.participant facts (λ tag. looking tag freeing) facts.maker)) is
-detached_ends line (act.Resize label size) built facts is =
-    ap (λ (attached : Bool). if_attached attached
-    (if_sized (resize_refusal size) (on_element line.participant facts (resizing_to size) facts.maker))) is
-detached_ends line (act.Dump heap) built facts is =
-    ap (λ (attached : Bool). if_attached attached (dumping (find (has_name heap.text) (socket_heaps facts.pools)))) is
-detached_ends line (act.Watch name) built facts is =
-    ap (λ (attached : Bool). if_attached attached (Doing.Ended (watching facts.watchers name.text))) is
-detached_ends line (act.Unwatch name) built facts is =
-    ap (λ (attached : Bool). if_attached attached (Doing.Ended (unwatching facts.watchers name.text))) is
-detached_ends line (act.Limit name socket bytes allow) built facts is =
-    ap (λ (attached : Bool). if_attached attached (Doing.Ended (limiting facts.validators name.text socket))) is
-detached_ends line (act.Unlimit name socket) built facts is =
-    ap (λ (attached : Bool). if_attached attached (Doing.Ended (unlimiting facts.validators name.text socket))) is
-detached_ends line (act.Stats heap) built facts is =
-    ap (λ (attached : Bool). if_attached attached (by_heaps facts (λ named. reading_stats (find (has_name heap.text) named)))) is
-detached_ends line act.Attach (built, other, stays) facts is = absurd (other refl)
-detached_ends line act.Detach (built, other, stays) facts is = absurd (stays refl)
-detached_ends line _ (built, other, stays) facts is = absurd cc
+detached_ends line act.Attach inside facts is = absurd inside
+detached_ends line act.Detach inside facts is = absurd inside
+detached_ends line (act.Await other lines) inside facts is = absurd inside
+detached_ends line _ inside facts is = rw is refl
+
+inside_alone : (deed : Act) → IsInside deed → AwaitsNone deed
+inside_alone (act.Await other lines) inside = absurd inside
+inside_alone _ inside = tt
 
 -- who is not attached does nothing of its line
-pub detached_done : (count : ℕ) (did : List MailStep → Type 0) → did [] → (line : Line) (moment : Moment) → IsLineOfOne line.act
-    → moment.context.standing.attached ≡ false → DoesLine count did line answer.Detached moment moment
-detached_done count did none line moment built is =
+pub detached_done : (count : ℕ) (did : List MailStep → Type 0) → did [] → (line : Line) (moment : Moment) → IsInside line.act
+    → moment.hand ≡ None → moment.context.standing.attached ≡ false → DoesLine count did line answer.Detached moment moment
+detached_done count did none line moment inside empty is =
     let party = moment.party in
-    let request = has_request line.act built in
+    let request = has_request line.act in
     let facts : Facts = facts_for party.socket moment.context line.act request.0 in
-    let does : Does [] count did (doing_of line line.act facts) (Doing.Ended answer.Detached) moment moment =
-    subst (λ (doing : Doing). Does [] count did doing (Doing.Ended answer.Detached) moment moment) (sym (detached_ends line line.act built facts is))
-    (does_same count did (Doing.Ended answer.Detached) moment none) in
+    let done : IsNothing count did (doing_of line line.act facts) (Doing.Ended answer.Detached) moment =
+    subst (λ (doing : Doing). IsNothing count did doing (Doing.Ended answer.Detached) moment) (sym (detached_ends line line.act inside facts is))
+    (nothing_done count did (Doing.Ended answer.Detached) moment none) in
+    let does = done.does in
+    let acts : Acts count None moment.hand [] (doer_at moment) (doer_at moment) does.trace does.steps =
+    subst (λ (hand : Option ℕ). Acts count hand moment.hand [] (doer_at moment) (doer_at moment) does.trace does.steps) empty does.acts in
     record {
       facts = facts;
       known = facts_known party.socket moment.context line request.0 request.1;
@@ -290,6 +323,11 @@ detached_done count did none line moment built is =
       none = holds_none line.act;
       mid = moment;
       does = does;
+      names = done.names;
+      order = acts_ordered acts;
+      hands = hands_first line.act does.steps done.apart;
+      tells = acts_told acts;
+      awaited = awaits_none line.act does.steps (inside_alone line.act inside);
       ended = ends_detached line.act moment;
-      left = sym (detached_leaves line line.act built does.trace moment.context.standing);
+      left = sym (detached_leaves line line.act does.trace moment.context.standing);
     }

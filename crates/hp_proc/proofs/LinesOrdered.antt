@@ -12,6 +12,7 @@ use Rattle.hp_frame.specs.declared.message.Message.{Message}
 use Rattle.hp_frame.specs.declared.message.Body.TheVariants.{Free}
 use Rattle.hp_hall.specs.Mail.{MailStep, Fetches, Gives, Notes, Posts, Takes}
 use Rattle.hp_hall.specs.declared.kept.Kept.{Kept}
+use Rattle.hp_hall.specs.declared.kept.Kept.TheVariants.{Names}
 use Rattle.hp_hall.specs.declared.slot.TheConstants.{NAMES_SLOT}
 use Rattle.hp_base.specs.declared.plan.Action.{Action}
 use Rattle.hp_mail.specs.declared.posted.Posted.{Posted}
@@ -28,7 +29,7 @@ use Rattle.hp_proc.specs.LockOrder.{AreInOrderFrom, AreToldEmptyHandedFrom, Come
 use Rattle.hp_proc.specs.NamesOfLines.{AreUntold, ChangesNames, names_read}
 use Rattle.hp_proc.specs.ParticipantView.{ParticipantView}
 use Rattle.hp_proc.specs.SharedNames.{SharedNames}
-use Rattle.hp_proc.proofs.StepsOrdered.{Allows, Along, AreBut, IsFewHand, Suits, acts_along, along_both, aside_by, low_after, names_given, rank_by, rank_of_heap, slots}
+use Rattle.hp_proc.proofs.StepsOrdered.{Allows, Along, AreBut, IsFewHand, Suits, acts_along, along_both, aside_by, low_after, names_given, rank_by, rank_of_heap, segs_by, slots}
 use Rattle.hp_proc.proofs.ServesAside.{IsNoNotice}
 use Rattle.hp_proc.proofs.WaitsAside.{ask_on_aside, turn_aside, wait_aside}
 use Rattle.hp_zone.specs.declared.names.Names.{Names as NamesView}
@@ -267,14 +268,12 @@ module _ (count : ℕ) where
       aside_by ComesAfterHand comes_suits IsQuiet comes_allows count None names steps steps tt refl
       (turn_aside (denials_of doer.context.standing) count until doer.party after steps None turned)
   on_along names _ _ _ _ _ _ _ (ActsOn.asks_nothing doer heap taken) few ok =
-      aside_by ComesAfterHand comes_suits IsQuiet comes_allows count (Some heap) names _ _ few refl
-      (refl, refl, tt, (refl, refl, tt, refl))
+      segs_by ComesAfterHand comes_suits IsQuiet comes_allows count (Some heap) names taken taken few
   on_along names _ _ _ _ _ _ _ (ActsOn.asks_on doer after asked run steps does) few ok =
       aside_by ComesAfterHand comes_suits IsQuiet comes_allows count (Some asked.heap) names steps steps few refl
       (ask_on_aside (denials_of doer.context.standing) count doer.party after asked steps run true does)
   on_along names _ _ _ _ _ _ _ (ActsOn.attaches_not doer taken watched) few ok =
-      aside_by ComesAfterHand comes_suits IsQuiet comes_allows count None names _ _ tt refl
-      (refl, refl, tt, (refl, refl, tt, refl))
+      segs_by ComesAfterHand comes_suits IsQuiet comes_allows count None names taken taken tt
   on_along names _ _ _ _ _ _ _ (ActsOn.notice_stops doer after heap run steps stops) few ok =
       (stopped_along names doer doer (record doer { party = after }) heap run steps stops, tt)
   on_along true _ _ _ _ _ _ _ (ActsOn.holds_names held doer after taken given trace steps acts changes) few ok =
@@ -283,8 +282,8 @@ module _ (count : ℕ) where
       let inner = on_along true None None held doer after trace steps acts tt (λ is. (changes.unread, changes.untold)) in
       (
         (
-          comes_suits.names _,
-          along_both ComesAfterHand (NAMES_SLOT ∷ []) (NAMES_SLOT ∷ []) [] steps _ inner.0 (tt, names_given),
+          comes_suits.names (Names taken),
+          along_both ComesAfterHand (NAMES_SLOT ∷ []) (NAMES_SLOT ∷ []) [] steps (Gives NAMES_SLOT (Names given) ∷ []) inner.0 (tt, names_given),
         ),
         tt,
       )
@@ -302,5 +301,5 @@ module _ (count : ℕ) where
 
   pub halts_ordered : {last : Option ℕ} {held : List ℕ} {doer after : ParticipantView} {trace : List Done} {steps : List MailStep}
       → ActsOn count None last held doer after trace steps → IsInLockOrder steps
-  halts_ordered {last} {held} {doer} {after} {trace} {steps} acts =
-      ordered_from [] (slots last false) steps (on_along false None last held doer after trace steps acts tt (quiet_none held trace)).0
+  halts_ordered {last} {held} {doer} {after} {trace} {steps} stopped =
+      ordered_from [] (slots last false) steps (on_along false None last held doer after trace steps stopped tt (quiet_none held trace)).0

@@ -1,5 +1,5 @@
 -- A chunk of the heap in hand that its holder has not attached: no chunk with the holder's mark, in whichever heap, is of that list.
-use Rattle.std.proofs.Common.{◌≡◌, ◌≢◌, ◌∙◌, ℕ, ◌<◌, ◌≤◌, true, false, List, Contains, Option, Some, count_by, filter, refl, sym, ap, subst, eqb, eq-eqb, ⊎_elim, true≢false}
+use Rattle.std.proofs.Common.{◌<◌, ◌∙◌, ◌≡◌, ◌≢◌, ◌≤◌, Contains, List, Some, ap, count_by, eq-eqb, eqb, false, filter, subst, sym, true≢false, ℕ, ⊎_elim}
 use Rattle.std.proofs.lemmas.Bool.{cases_eq, cond-false, cond-true, ne_eqb}
 use Rattle.hp_base.specs.Flags.{has_bit}
 use Rattle.hp_base.specs.declared.chunk.Chunk.{Chunk}
@@ -7,12 +7,13 @@ use Rattle.hp_base.specs.declared.limits.TheConstants.{MAX_HEAPS}
 use Rattle.hp_external.proofs.ChunkLemmas.{one_of_list}
 use Rattle.hp_hall.proofs.ClaimedChunks.{chunk_named}
 use Rattle.hp_hall.specs.HallState.{HallState}
-use Rattle.hp_hall.specs.Holding.{AgreeWith, AreStanding, HeapPart}
-use Rattle.hp_hall.specs.Naming.{Naming, marked_by, naming_of, unmarked}
+use Rattle.hp_hall.specs.Holding.{AgreeWith, AreStanding}
+use Rattle.hp_hall.specs.Naming.{Naming, marked_by, unmarked}
 use Rattle.hp_heap.proofs.AllocFacts.ChoiceLaw.{Contains-filter}
 use Rattle.hp_heap.proofs.Members.{Contains-imaged}
 use Rattle.hp_heap.specs.History.{HeapView}
 use Rattle.hp_heap.specs.Tiling.{IsTiled}
+use Rattle.hp_proc.proofs.HandFacts.HandNamed.{known_else, known_here}
 use Rattle.hp_proc.proofs.ReleasedMemory.{one_heap}
 use Rattle.hp_proc.specs.HeldMarks.{marked_with}
 use Rattle.hp_proc.specs.NamesInHand.{with_naming}
@@ -27,24 +28,6 @@ module _ (me : ℕ) (state : HallState) (segs : SegsView) (names : NamesView) (h
     (standing : AreStanding me (state.part me) segs) (agree : AgreeWith (with_naming heap (state.part me)) names)
     (distinct : (list : ℕ) → count_by (λ range. eqb range.list list) agree.claims ≤ 1) (few : heap.plain.index < MAX_HEAPS)
     (tiled : IsTiled heap.plain) (here : Contains heap.plain.chunks chunk) (out : has_bit chunk.attached me ≡ false) where
-  -- what is known of the heap in hand, and of the others
-  abbrev with_it : ℕ → HeapPart
-  with_it index = record (state.part me index) { naming = Some (naming_of heap.plain) }
-
-  known_here : agree.namings heap.plain.index ≡ naming_of heap.plain
-  known_here =
-      same_naming
-      (sym (agree.known heap.plain.index few)
-      ∙ ap (λ (part : HeapPart). part.naming)
-      (cond-true (eqb heap.plain.index heap.plain.index) (with_it heap.plain.index) (state.part me heap.plain.index)
-      (eq-eqb heap.plain.index heap.plain.index refl)))
-
-  known_else : (index : ℕ) → index < MAX_HEAPS → index ≢ heap.plain.index → (state.part me index).naming ≡ Some (agree.namings index)
-  known_else index below away =
-      sym (ap (λ (part : HeapPart). part.naming)
-      (cond-false (eqb index heap.plain.index) (with_it index) (state.part me index) (ne_eqb index heap.plain.index away)))
-      ∙ agree.known index below
-
   own_apart : (other : Chunk) → Contains (marked_by me heap.plain) other → other.list ≢ chunk.list
   unfolding marked_by
   own_apart other has same =
@@ -67,6 +50,6 @@ module _ (me : ℕ) (state : HallState) (segs : SegsView) (names : NamesView) (h
       (cond-false (eqb index heap.plain.index) (marked_by me heap.plain) (marked_in me state index) (ne_eqb index heap.plain.index away)) has in
       away
       (one_heap names agree.namings agree.claims agree.agreed distinct index heap.plain.index other (unmarked chunk) below few
-      (standing.named index (agree.namings index) other below (known_else index below away) among)
-      (subst (λ (n : Naming). Contains n.chunks (unmarked chunk)) (sym known_here) (chunk_named heap.plain chunk here)) same)))
+      (standing.named index (agree.namings index) other below (known_else heap (state.part me) names agree few index below away) among)
+      (subst (λ (n : Naming). Contains n.chunks (unmarked chunk)) (known_here heap (state.part me) names agree few) (chunk_named heap.plain chunk here)) same)))
       (cases_eq index heap.plain.index)

@@ -68,7 +68,7 @@ module _ (plain : PlainDirectory) (text : List ℕ) where
       ]
 
   module _ (long : length plain.heaps ≡ MAX_HEAPS) where
-    named_there : (index : ℕ) (heap : HeapName) → heap_at plain index ≡ Some heap → IsNamed plain index heap
+    pub named_there : (index : ℕ) (heap : HeapName) → heap_at plain index ≡ Some heap → IsNamed plain index heap
     named_there index heap is = by_slot (slice_get plain.heaps index) refl is
       where
         by_slot : (slot : Option (Option HeapName)) → slice_get plain.heaps index ≡ slot → option_flatten slot ≡ Some heap

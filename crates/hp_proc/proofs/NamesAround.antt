@@ -1,5 +1,5 @@
 -- A line that has the names in hand while it does more: it took them, did that, and gave them back.
-use Rattle.std.proofs.Common.{◌≡◌, ◌∙◌, ℕ, ◌+◌, List, [], ◌∷◌, ◌++◌, append_assoc, length, Option, Some, None, refl, ap, sym, subst, arith}
+use Rattle.std.proofs.Common.{◌≡◌, ◌∙◌, ℕ, ◌+◌, List, [], ◌∷◌, ◌++◌, append_assoc, length, map, Option, Some, None, refl, ap, sym, subst, arith}
 use Rattle.std.specs.List.{Contains}
 use Rattle.std.proofs.lemmas.List.Elements.{Contains-append_left}
 use Rattle.hp_hall.specs.Giving.{GivesFor, IsGiveOf}
@@ -76,7 +76,7 @@ names_give_on {old} {new} grow gives = record {
     allocated_on entries more is =
         record { entry = is.entry; there = Contains-append_left entries more is.entry is.there; at = is.at }
 
-module _ {doer mid new : ParticipantView} {names given : NamesView} {from at between to : HallState}
+module _ {doer mid : ParticipantView} {names given : NamesView} {from at between to : HallState}
     (held : HoldsNames doer.party.me doer mid names from at) (gave : HasGiven doer.party.me NAMES_SLOT (Names given) between to)
     (slots : SlotsStayBut NAMES_SLOT between to) (others : OthersStay doer.party.me between to) where
   abbrev me : ℕ
@@ -92,29 +92,30 @@ module _ {doer mid new : ParticipantView} {names given : NamesView} {from at bet
       (append_assoc held.waited (Takes NAMES_SLOT (Names names) ∷ []) (steps ++ Gives NAMES_SLOT (Names given) ∷ []))
       (did_then held.did (did_then did gave.did))
 
-  module _ (trace : List Done)
-      (made : (heap : ℕ) → (between.part me heap).entries
+  around_entries : (trace : List Done)
+      → ((heap : ℕ) → (between.part me heap).entries
       ≡ (at.part me heap).entries ++ entries_for mid.party.me heap (mid.context.calls + 1) (calls_in trace))
-      (counted : new.context ≡ record (after_calls (length (calls_in trace)) mid.context) { standing = new.context.standing }) where
-    around_entries : (heap : ℕ) → (to.part me heap).entries
-        ≡ (from.part me heap).entries ++ entries_for doer.party.me heap (doer.context.calls + 1) (calls_in trace)
-    around_entries heap =
-        (gave.part heap).beside.entries ∙ made heap
-        ∙ ap (λ (entries : List Entry). entries ++ entries_for mid.party.me heap (mid.context.calls + 1) (calls_in trace)) (held.beside heap).entries
-        ∙ ap (λ (who : ℕ). (from.part me heap).entries ++ entries_for who heap (mid.context.calls + 1) (calls_in trace)) held.same.me
-        ∙ ap (λ (context : Context). (from.part me heap).entries ++ entries_for doer.party.me heap (context.calls + 1) (calls_in trace)) held.context
+      → (heap : ℕ) → (to.part me heap).entries
+      ≡ (from.part me heap).entries ++ entries_for doer.party.me heap (doer.context.calls + 1) (calls_in trace)
+  around_entries trace made heap =
+      (gave.part heap).beside.entries ∙ made heap
+      ∙ ap (λ (entries : List Entry). entries ++ entries_for mid.party.me heap (mid.context.calls + 1) (calls_in trace)) (held.beside heap).entries
+      ∙ ap (λ (who : ℕ). (from.part me heap).entries ++ entries_for who heap (mid.context.calls + 1) (calls_in trace)) held.same.me
+      ∙ ap (λ (context : Context). (from.part me heap).entries ++ entries_for doer.party.me heap (context.calls + 1) (calls_in trace)) held.context
 
-    around_counted : new.context ≡ record (after_calls (length (calls_in trace)) doer.context) { standing = new.context.standing }
-    around_counted =
-        subst (λ (context : Context). new.context ≡ record (after_calls (length (calls_in trace)) context) { standing = new.context.standing })
-        held.context counted
+  around_counted : (new : ParticipantView) (trace : List Done)
+      → new.context ≡ record (after_calls (length (calls_in trace)) mid.context) { standing = new.context.standing }
+      → new.context ≡ record (after_calls (length (calls_in trace)) doer.context) { standing = new.context.standing }
+  around_counted new trace counted =
+      subst (λ (context : Context). new.context ≡ record (after_calls (length (calls_in trace)) context) { standing = new.context.standing })
+      held.context counted
 
   -- what it did is what reading the names leads to
-  pub does_around : {heaps : List ℕ} (goes : SharedNames → Doing) (rest : Doing)
+  unfoldable pub does_around : {new : ParticipantView} {heaps : List ℕ} (goes : SharedNames → Doing) (rest : Doing)
       → (did : DoesNamed heaps me mid new names given at between (goes (shared_of names)) rest)
       → DoesHere heaps me doer new from to (reading_names goes) rest
   unfolding Leads Goes AreAsked
-  does_around {heaps} goes rest did =
+  does_around {new} {heaps} goes rest did =
       let does = did.does in
       let behind = others.later.seen me in
       let heard = others.later.heard me in
@@ -128,9 +129,9 @@ module _ {doer mid new : ParticipantView} {names given : NamesView} {from at bet
         acts = Acts.and_then None None None [] heaps doer mid new [] (NamesRead (shared_of names) ∷ does.trace) held.waited _ held.acts
             (Acts.holds_names heaps mid new names given does.trace does.steps
             (subst (λ (count : ℕ). Acts count None None heaps mid new does.trace does.steps) held.later.count does.acts) did.names);
-        entries = around_entries does.trace does.entries does.counted;
+        entries = around_entries does.trace does.entries;
         serves = λ heap. (gave.part heap).beside.serves ∙ does.serves heap ∙ (held.beside heap).serves;
-        counted = around_counted does.trace does.entries does.counted;
+        counted = around_counted new does.trace does.counted;
         same = same_then doer.party mid.party new.party held.same does.same;
         asked =
             subst (λ (asks : List AskLog). AreAsked (to.seen me) asks doer.party.me doer.party.asked new.party.asked does.trace) (sym heard.1)
@@ -153,11 +154,11 @@ module _ {doer mid new : ParticipantView} {names given : NamesView} {from at bet
       }
 
   -- so is what it did where it stopped
-  pub halts_around : {heaps : List ℕ} (goes : SharedNames → Doing)
+  pub halts_around : {new : ParticipantView} {heaps : List ℕ} (goes : SharedNames → Doing)
       → (did : HaltsNamed heaps me mid new names given at between (goes (shared_of names)))
       → HaltsHere heaps me doer new from to (reading_names goes)
   unfolding Leads Goes
-  halts_around {heaps} goes did =
+  halts_around {new} {heaps} goes did =
       let halts = did.halts in
       record {
         rest = halts.rest;
@@ -171,14 +172,14 @@ module _ {doer mid new : ParticipantView} {names given : NamesView} {from at bet
         acts = ActsOn.and_then None None None [] halts.held doer mid new [] (NamesRead (shared_of names) ∷ halts.trace) held.waited _ held.acts
             (ActsOn.holds_names halts.held mid new names given halts.trace halts.steps
             (subst (λ (count : ℕ). ActsOn count None None halts.held mid new halts.trace halts.steps) held.later.count halts.acts) did.names);
-        entries = around_entries halts.trace halts.entries halts.counted;
-        counted = around_counted halts.trace halts.entries halts.counted;
+        entries = around_entries halts.trace halts.entries;
+        counted = around_counted new halts.trace halts.counted;
         same = same_then doer.party mid.party new.party held.same halts.same;
       }
 
   -- and it is ready for its next line
-  pub ready_around : IsReadyNamed me new given between → IsReadyIn me new to
-  ready_around ready =
+  pub ready_around : {new : ParticipantView} → IsReadyNamed me new given between → IsReadyIn me new to
+  ready_around {new} ready =
       let but = ready.but in
       let more = others.later.heard me in
       record {

@@ -1,8 +1,5 @@
 -- What a participant does that reads the names, or the newest statistics of a heap.
 use Rattle.std.proofs.Common.{◌≡◌, ◌∙◌, ℕ, ◌++◌, ◌<◌, List, [], ◌∷◌, map, append-nil, append_assoc, Option, Some, None, refl, ap, sym, subst, arith}
-use Rattle.std.specs.Prelude.{IfSome}
-use Rattle.std.proofs.lemmas.Option.{slice_get_within}
-use Rattle.hp_base.specs.declared.limits.TheConstants.{MAX_HEAPS}
 use Rattle.hp_hall.specs.HallCalls.{HasGiven}
 use Rattle.hp_hall.specs.HallState.{Did, HallState, OthersStay, SlotsStayBut}
 use Rattle.hp_hall.specs.Mail.{Gives, MailStep, Takes}
@@ -16,22 +13,16 @@ use Rattle.hp_proc.specs.Doing.{Doing, Goes, Leads}
 use Rattle.hp_proc.specs.Doing.Done.{NamesRead}
 use Rattle.hp_proc.specs.Handing.{shared_of}
 use Rattle.hp_proc.specs.Heaps.{sockets_of}
-use Rattle.hp_proc.specs.LineInHall.{DoesHere, HoldsNames, IsNameIn, IsReadyAgain}
+use Rattle.hp_proc.specs.LineInHall.{DoesHere, HoldsNames, IsReadyAgain, ReadsNames}
 use Rattle.hp_proc.specs.Lines.{reading_names}
 use Rattle.hp_proc.specs.ParticipantView.{ParticipantView}
 use Rattle.hp_proc.specs.SharedNames.{SharedNames, directory_in}
 use Rattle.hp_proc.proofs.Joining.{context_still}
 use Rattle.hp_proc.proofs.LinesInHall.{idle_again}
 use Rattle.hp_proc.proofs.NamesHeld.{ready_beside}
+use Rattle.hp_proc.proofs.TreeDeeds.{acts_unnamed, steps_on}
 use Rattle.hp_serve.proofs.InHalls.{tied_later}
 use Rattle.hp_proc.specs.OwnChunks.{own_chunk}
-
--- a heap that has a name is one of the directory
-pub within : (view : DirectoryView) (text : List ℕ) (found : Option ℕ) → IsDirectory view → IsNameIn view.plain text found
-    → IfSome found (λ index. index < MAX_HEAPS)
-within view text None is named = tt
-within view text (Some index) is named =
-    omega (arith, slice_get_within view.plain.heaps index (Some named.1.heap) named.1.there, is.indexes)
 
 -- the directory that is in hand is that which the names leave of the pools' sockets
 pub as_leaves : (doer : ParticipantView) (names : NamesView) → IsDirectory names.heaps → names.heaps.sockets ≡ sockets_of doer.context.pools
@@ -46,9 +37,9 @@ module _ (doer mid : ParticipantView) (names : NamesView) (from at to : HallStat
   me = doer.party.me
 
   -- it read them
-  pub names_read : (goes : SharedNames → Doing) → DoesHere [] me doer mid from to (reading_names goes) (goes (shared_of names))
+  does_read : (goes : SharedNames → Doing) → DoesHere [] me doer mid from to (reading_names goes) (goes (shared_of names))
   unfolding Leads Goes AreAsked
-  names_read goes =
+  does_read goes =
       let later = later_then held.later others.later in
       let seen = later.seen me in
       let heard = later.heard me in
@@ -71,6 +62,16 @@ module _ (doer mid : ParticipantView) (names : NamesView) (from at to : HallStat
         outcomes = heard.0;
         asks = heard.1;
       }
+
+  pub names_read : (goes : SharedNames → Doing) → ReadsNames me doer mid names from to goes
+  unfolding does_read
+  names_read goes = record {
+    does = does_read goes;
+    trace = refl;
+    steps = steps_on held.waited (Takes NAMES_SLOT (Names names) ∷ Gives NAMES_SLOT (Names names) ∷ [])
+        ∙ ap (λ (waited : List MailStep). waited ++ (Takes NAMES_SLOT (Names names) ∷ Gives NAMES_SLOT (Names names) ∷ []))
+        (acts_unnamed from.count None None [] doer mid [] held.waited held.acts refl);
+  }
 
   -- and is ready for its next line
   pub ready_read : IsReadyAgain me doer mid to

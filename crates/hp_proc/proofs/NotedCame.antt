@@ -1,10 +1,10 @@
 -- What a participant notes to be attached are the chunks with its mark still, once it has attached one more.
-use Rattle.std.proofs.Common.{◌≡◌, ◌≢◌, ◌∙◌, ℕ, ◌+◌, ◌<◌, ◌≤◌, Bool, true, false, ◌&&◌, ◌||◌, cond, List, [], ◌∷◌, ◌++◌, Contains, Option, Some, append-nil, filter, map, refl, sym, ap, subst, arith, eqb, eq-eqb, inl, inr}
+use Rattle.std.proofs.Common.{◌&&◌, ◌++◌, ◌+◌, ◌<◌, ◌||◌, ◌∙◌, ◌∷◌, ◌≡◌, ◌≢◌, ◌≤◌, Bool, Contains, List, Some, [], ap, append-nil, arith, cond, eq-eqb, eqb, false, filter, inl, inr, map, refl, subst, sym, true, ℕ}
 use Rattle.std.specs.Prelude.{nat_lt}
-use Rattle.std.specs.List.{AllByRecursion}
 use Rattle.std.proofs.lemmas.Bool.{and_left, cases_lt, cond-false, cond-true, eqb-true, le-ltb, lt-ltb, ne_eqb, or_left}
-use Rattle.std.proofs.lemmas.List.{map-append}
 use Rattle.std.proofs.lemmas.List.Elements.{filter-append}
+use Rattle.std.proofs.lemmas.List.{map-append}
+use Rattle.std.specs.List.{AllByRecursion}
 use Rattle.hp_base.specs.Flags.{has_bit}
 use Rattle.hp_base.specs.declared.chunk.Chunk.{Chunk}
 use Rattle.hp_events.proofs.ListFacts.{map_filter}
@@ -13,7 +13,7 @@ use Rattle.hp_external.proofs.ListLemmas.{filter_none}
 use Rattle.hp_external.proofs.Marks.{mark_own}
 use Rattle.hp_hall.specs.Naming.{marked_by, unmarked}
 use Rattle.hp_heap.proofs.AllocFacts.ChoiceLaw.{Contains-cases, Contains-filter, Contains-none}
-use Rattle.hp_heap.proofs.ChunkFacts.ChunkListLemmas.{above_first, rise_over}
+use Rattle.hp_heap.proofs.ChunkFacts.ChunkListLemmas.{rise_over}
 use Rattle.hp_heap.proofs.Members.{AllByRecursion-each, filter_alike, filter_swapped, filter_whole}
 use Rattle.hp_heap.specs.ChunkOrder.{AreInOrder, AreRisingFrom}
 use Rattle.hp_heap.specs.Chunks.{after_share, chunk_at, is_chunk_at, with_mark}
@@ -27,6 +27,16 @@ use Rattle.hp_proc.specs.declared.own_chunk.OwnChunk.{OwnChunk}
 map_itself : (f : Chunk → Chunk) (chunks : List Chunk) → AllByRecursion (λ (c : Chunk). f c ≡ c) chunks → map f chunks ≡ chunks
 map_itself f [] all = refl
 map_itself f (c ∷ cs) all = λ i. all.0 i ∷ map_itself f cs all.1 i
+
+-- a chunk among some that rise lies no lower than they begin
+above_first : (from : ℕ) (cs : List Chunk) (x : Chunk) → AreRisingFrom from cs → Contains cs x → from ≤ x.addr
+above_first from [] x rising there = absurd (Contains-none x there)
+above_first from (c ∷ cs) x rising there = elim (Contains-cases c x cs there) [
+  | inl is ↦ subst (λ (d : Chunk). from ≤ d.addr) is rising.0
+  | inr rest ↦ (let up = above_first (c.addr + 1) cs x rising.1 rest in
+      let low = rising.0 in
+      omega (arith, up, low))
+]
 
 -- chunks by rising address of which the one at an address gets a mark: among the marked ones it stands by its address
 module _ (who a : ℕ) (f : Chunk → Chunk) where

@@ -1,5 +1,5 @@
 -- Pool lines from the first that names a socket on: a line before it names no page size of that socket.
-use Rattle.std.proofs.Common.{◌≡◌, ℕ, ◌+◌, ◌-◌, ◌≤◌, Bool, true, false, not, cond, List, [], ◌∷◌, take, drop, length, position, unwrap_or, refl, ap, ◌∙◌, inl, inr, arith}
+use Rattle.std.proofs.Common.{◌≡◌, ℕ, suc, ◌+◌, ◌-◌, ◌≤◌, Bool, true, false, not, cond, List, [], ◌∷◌, take, drop, length, position, unwrap_or, refl, ap, ◌∙◌, inl, inr, arith}
 use Rattle.std.proofs.lemmas.Bool.{cases_lt, lt-ltb, le-ltb}
 use Rattle.std.proofs.lemmas.List.{take_all, length-drop}
 use Rattle.std.proofs.lemmas.List.Sums.{prefix_len-le-length}
@@ -33,7 +33,9 @@ over_others (line ∷ pools) socket page = tested (line.socket == socket) refl (
         → has_pool (drop (position_or_len (is_of socket) pools) pools) socket page ≡ has_pool pools socket page
         → has_pool (drop (position_or_len (is_of socket) (line ∷ pools)) (line ∷ pools)) socket page ≡ has_pool (line ∷ pools) socket page
     tested true is rest = rw is refl
-    tested false is rest = rw is rest
+    tested false is rest =
+        let one : 1 + position_or_len (is_of socket) pools ≡ suc (position_or_len (is_of socket) pools) = omega arith in
+        rw is (ap (λ (n : ℕ). has_pool (drop n (line ∷ pools)) socket page) one ∙ rest)
 
 pub same_sizes : (pools : List PoolLine) (socket first page : ℕ) → first ≡ position_or_len (is_of socket) pools
     → has_pool (take (length pools - first) (drop first pools)) socket page ≡ has_pool pools socket page

@@ -7,16 +7,17 @@ use Rattle.hp_script.specs.declared.answer.Answer.{Answer}
 use Rattle.hp_script.specs.declared.line.Act.{Act}
 use Rattle.hp_script.specs.declared.line.Line.{Line}
 use Rattle.hp_proc.specs.LineTrees.{doing_of}
-use Rattle.hp_proc.specs.Courses.{HasRequest}
-use Rattle.hp_proc.specs.LineInHall.{DoesLineHere, HaltsLineHere, IsReadyAgain, IsReadyIn, did_in, moment}
+use Rattle.hp_proc.specs.Courses.{HasLineRequest}
+use Rattle.hp_proc.specs.LineInHall.{DoesLineHere, HaltsHere, HaltsLineHere, IsReadyAgain, IsReadyIn, did_in, moment}
 use Rattle.hp_proc.specs.ParticipantView.{ParticipantView, after_registering}
-use Rattle.hp_proc.specs.Registering.{registering}
+use Rattle.hp_proc.specs.Registering.{IsRegistering, registering}
 use Rattle.hp_proc.proofs.Halted.{halts_same}
 use Rattle.hp_proc.proofs.HandFacts.Holds.{again_line}
 use Rattle.hp_proc.proofs.LineEnds.{same_watched}
 use Rattle.hp_proc.proofs.LineFacts.{facts_for, facts_known}
+use Rattle.hp_proc.proofs.LinesOrdered.{halts_ordered}
 use Rattle.hp_proc.proofs.HandFacts.OnceHeld.{once_none}
-use Rattle.hp_proc.proofs.RegisteredLines.{IsRegistering, line_registered, no_request}
+use Rattle.hp_proc.proofs.RegisteredLines.{line_registered, no_request}
 
 -- it may do the next line
 ready_registered : (deed : Act) (given : Answer) (doer : ParticipantView) (state : HallState) → IsReadyIn doer.party.me doer state
@@ -64,14 +65,20 @@ module _ {E : Type 0} (result : Result Answer E) (doer after : ParticipantView) 
   here_halts its_act is err = by_result result err
     where
       nothing : HaltsLineHere doer.party.me doer doer hall hall line
-      nothing = record {
-        facts = facts_for doer.party.socket doer.context line.act None;
-        known = facts_known doer.party.socket doer.context line None (subst (λ (deed : Act). HasRequest deed None) (sym its_act) (no_request deed is));
-        heaps = [];
-        once = once_none;
-        halts = halts_same [] hall.count (did_in doer.party.me hall hall) (doing_of line line.act (facts_for doer.party.socket doer.context line.act None))
-            (moment doer.party.me doer hall) (did_same doer.party.me hall);
-      }
+      nothing =
+          let facts = facts_for doer.party.socket doer.context line.act None in
+          let halts : HaltsHere [] doer.party.me doer doer hall hall (doing_of line line.act facts) =
+          halts_same [] hall.count (did_in doer.party.me hall hall) (doing_of line line.act facts) (moment doer.party.me doer hall)
+          (did_same doer.party.me hall) in
+          record {
+            facts = facts;
+            known = facts_known doer.party.socket doer.context line None
+                (subst (λ (deed : Act). HasLineRequest deed None) (sym its_act) (no_request deed is));
+            heaps = [];
+            once = once_none;
+            halts = halts;
+            order = halts_ordered hall.count halts.acts;
+          }
 
       by_result : (result : Result Answer E) → OnErr result (after ≡ doer)
           → OnErr result (HaltsLineHere doer.party.me doer after hall hall line)

@@ -1,6 +1,5 @@
 -- What was done of a line that registers a watcher or a validator, or takes one back, and what it leaves.
 use Rattle.std.proofs.Common.{◌≡◌, ◌∙◌, ℕ, Bool, true, false, nat_eq, not, List, [], ◌∷◌, ◌++◌, append-nil, filter, None, refl, ap, sym, subst, if◌then◌else◌}
-use Rattle.std.specs.Prelude.{⊤}
 use Rattle.std.specs.Cmp.Lexicographic.{pointwise}
 use Rattle.hp_base.specs.Telling.{Listener}
 use Rattle.hp_events.specs.Watchers.{has_name}
@@ -15,26 +14,18 @@ use Rattle.hp_script.specs.declared.line.Line.{Line}
 use Rattle.hp_segs.specs.declared.outcome.AskLog.{AskLog}
 use Rattle.hp_proc.specs.LineTrees.{doing_of}
 use Rattle.hp_proc.specs.Contexts.{Context}
-use Rattle.hp_proc.specs.Courses.{HasRequest, Standing, after_line}
+use Rattle.hp_proc.specs.Courses.{HasLineRequest, Standing, after_line}
 use Rattle.hp_proc.specs.Doing.{Doing, Done}
 use Rattle.hp_proc.specs.Lines.{Facts, if_attached}
 use Rattle.hp_proc.specs.ParticipantView.{ParticipantView, after_registering, watched_after}
-use Rattle.hp_proc.specs.Progress.{Does, DoesLine, Moment, moment_of, registered_at}
-use Rattle.hp_proc.specs.Registering.{registering, watchers_after}
+use Rattle.hp_proc.specs.Progress.{DoesLine, Moment, moment_of, registered_at}
+use Rattle.hp_proc.specs.Registering.{IsRegistering, registering, watchers_after}
 use Rattle.hp_proc.specs.declared.own_element.OwnElement.{OwnElement}
 use Rattle.hp_serve.specs.Party.{Party}
 use Rattle.hp_serve.specs.Watched.{names_of}
-use Rattle.hp_proc.proofs.Joining.{does_same}
-use Rattle.hp_proc.proofs.LineFacts.{facts_for, facts_known, holds_none}
+use Rattle.hp_proc.proofs.LineFacts.{AwaitsNone, IsNothing, awaits_none, facts_for, facts_known, hands_first, holds_none, nothing_done}
+use Rattle.hp_proc.proofs.LinesOrdered.{acts_ordered, acts_told}
 use Rattle.hp_proc.proofs.HandFacts.OnceHeld.{once_none}
-
--- such a line
-abbrev pub IsRegistering : Act → Type 0
-IsRegistering (act.Watch name) = ⊤
-IsRegistering (act.Unwatch name) = ⊤
-IsRegistering (act.Limit name socket bytes allow) = ⊤
-IsRegistering (act.Unlimit name socket) = ⊤
-IsRegistering _ = ⊥
 
 -- its tree ends at once, by what is known
 tree_ends : (line : Line) (deed : Act) (socket : ℕ) (context : Context) → IsRegistering deed → context.standing.attached ≡ true
@@ -53,7 +44,11 @@ tree_ends line (act.Unlimit name validated) socket context is attached =
     (act.Unlimit name validated)))) attached
 tree_ends line _ socket context is attached = absurd is
 
-pub no_request : (deed : Act) → IsRegistering deed → HasRequest deed None
+registers_alone : (deed : Act) → IsRegistering deed → AwaitsNone deed
+registers_alone (act.Await other lines) is = absurd is
+registers_alone _ is = tt
+
+pub no_request : (deed : Act) → IsRegistering deed → HasLineRequest deed None
 no_request (act.Watch name) is = tt
 no_request (act.Unwatch name) is = tt
 no_request (act.Limit name socket bytes allow) is = tt
@@ -89,17 +84,24 @@ module _ (count : ℕ) (did : List MailStep → Type 0) (line : Line) (deed : Ac
       let tree : doing_of line line.act facts ≡ Doing.Ended given =
       ap (λ (done : Act). doing_of line done (facts_for doer.party.socket doer.context done None)) its_act
       ∙ (tree_ends line deed doer.party.socket doer.context is attached ∙ ap Doing.Ended (sym given_is)) in
-      let does : Does [] count did (doing_of line line.act facts) (Doing.Ended given) before before =
-      subst (λ (doing : Doing). Does [] count did doing (Doing.Ended given) before before) (sym tree)
-      (does_same count did (Doing.Ended given) before none) in
+      let done : IsNothing count did (doing_of line line.act facts) (Doing.Ended given) before =
+      subst (λ (doing : Doing). IsNothing count did doing (Doing.Ended given) before) (sym tree)
+      (nothing_done count did (Doing.Ended given) before none) in
+      let does = done.does in
       record {
         facts = facts;
-        known = facts_known doer.party.socket doer.context line None (subst (λ (done : Act). HasRequest done None) (sym its_act) (no_request deed is));
+        known = facts_known doer.party.socket doer.context line None
+            (subst (λ (done : Act). HasLineRequest done None) (sym its_act) (no_request deed is));
         held = [];
         once = once_none;
         none = holds_none line.act;
         mid = before;
         does = does;
+        names = done.names;
+        order = acts_ordered does.acts;
+        hands = hands_first line.act does.steps done.apart;
+        tells = acts_told does.acts;
+        awaited = awaits_none line.act does.steps (subst AwaitsNone (sym its_act) (registers_alone deed is));
         ended = ap (λ (deed : Act). registered_at deed given before) (sym its_act);
         left = leaves line deed given does.trace doer its_act is;
       }

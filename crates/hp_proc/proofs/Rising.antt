@@ -1,8 +1,8 @@
 -- How far the clock of one thread goes on in several waits one after another.
-use Rattle.std.proofs.Common.{◌≡◌, ℕ, suc, ◌+◌, ◌*◌, ◌≤◌, Bool, true, false, cond, not, ◌&&◌, ◌||◌, List, [], ◌∷◌, ◌++◌, filter, find, length, map, Option, Some, None, is_some, ap, arith}
+use Rattle.std.proofs.Common.{◌≡◌, ℕ, zero, suc, ◌+◌, ◌*◌, ◌≤◌, Bool, true, false, cond, not, ◌&&◌, ◌||◌, List, [], ◌∷◌, ◌++◌, filter, filter_map, find, length, map, Option, Some, None, is_some, refl, ap, arith}
 use Rattle.std.specs.List.{range_with_len}
 use Rattle.std.specs.Option.{option_to_list}
-use Rattle.std.proofs.lemmas.List.{length-append}
+use Rattle.std.proofs.lemmas.List.{length-append, length-map}
 use Rattle.std.proofs.Math.Nat.{add-mul, mul-le-mul_right}
 use Rattle.hp_base.specs.Pages.{page_sizes}
 use Rattle.hp_base.specs.declared.limits.TheConstants.{MAX_HEAPS}
@@ -11,11 +11,14 @@ use Rattle.hp_base.specs.Flags.{is_hint, names_page, names_pages}
 use Rattle.hp_script.specs.declared.options.SocketChoice.{SocketChoice}
 use Rattle.hp_script.specs.declared.options.SocketChoice.TheVariants.{Any, Number}
 use Rattle.hp_serve.specs.Clocks.{RisesWithin}
-use Rattle.hp_proc.specs.Contexts.{named_heap}
 use Rattle.hp_proc.specs.Heaps.{NamedHeap, has_name, has_pool, heaps_for, names_socket, page_sizes_for, socket_heaps, sockets_of, takes_pages_of}
-use Rattle.hp_proc.specs.declared.socket_heap.SocketHeap.{SocketHeap}
+use Rattle.hp_proc.specs.PlaceLists.{place_named}
+use Rattle.hp_proc.specs.SharedNames.{heaps_in, named_at}
+use Rattle.hp_proc.specs.declared.searched_heap.SearchedHeap.{SearchedHeap}
+use Rattle.hp_zone.specs.Directory.{PlainDirectory, heap_at}
+use Rattle.hp_zone.specs.declared.heap_name.HeapName.{HeapName}
 use Rattle.hp_proc.proofs.Mapped.{length-filter_le}
-use Rattle.hp_proc.proofs.SocketHeapLemmas.{length-heaps_from, length-named}
+use Rattle.hp_proc.proofs.SocketHeapLemmas.{length-heaps_from}
 
 module _ {T : Type 0} (pending : ℕ → ℕ → ℕ) (IsBusy : T → Type 0) where
   -- one rise after another
@@ -75,18 +78,48 @@ few_found {X} p xs = found (find p xs)
     found None = omega arith
     found (Some x) = omega arith
 
-few_chosen : (pools : List PoolLine) (own : ℕ) (name : Option (List ℕ)) (choice : SocketChoice)
-    → length (heaps_for own (socket_heaps pools) name choice) ≤ MAX_HEAPS
-few_chosen pools own (Some name) choice = omega (arith, few_found (has_name name) (socket_heaps pools))
-few_chosen pools own None (Number socket) = omega (arith, few_found (takes_pages_of socket) (socket_heaps pools))
-few_chosen pools own None Any =
-    let heaps = socket_heaps pools in
+-- nor of heaps that have a name
+few_named : (at : ℕ → Option HeapName) (n from : ℕ) → length (filter_map (λ index. named_at index (at index)) (range_with_len from n)) ≤ n
+few_named at zero from = omega arith
+few_named at (suc n) from = by_name (at from) refl (few_named at n (from + 1))
+  where
+    by_name : (name : Option HeapName) → at from ≡ name
+        → length (filter_map (λ index. named_at index (at index)) (range_with_len (from + 1) n)) ≤ n
+        → length (filter_map (λ index. named_at index (at index)) (range_with_len from (suc n))) ≤ suc n
+    by_name None is few = rw is (omega (arith, few))
+    by_name (Some name) is few = rw is (omega (arith, few))
+
+few_heaps_in : (plain : PlainDirectory) → length (heaps_in plain) ≤ MAX_HEAPS
+unfolding heaps_in
+few_heaps_in plain = few_named (heap_at plain) MAX_HEAPS 0
+
+few_chosen : (heaps : List NamedHeap) (own : ℕ) (name : Option (List ℕ)) (choice : SocketChoice) → length heaps ≤ MAX_HEAPS
+    → length (heaps_for own heaps name choice) ≤ MAX_HEAPS
+few_chosen heaps own (Some name) choice few = omega (arith, few_found (has_name name) heaps)
+few_chosen heaps own None (Number socket) few = omega (arith, few_found (takes_pages_of socket) heaps)
+few_chosen heaps own None Any few =
     let mine = filter (takes_pages_of own) heaps in
     let others = filter (λ (heap : NamedHeap). is_some heap.serves && not (takes_pages_of own heap)) heaps in
-    omega (arith, length-append mine others, parts_few (takes_pages_of own) (λ (heap : NamedHeap). is_some heap.serves) heaps, few_socket_heaps pools)
+    omega (arith, length-append mine others, parts_few (takes_pages_of own) (λ (heap : NamedHeap). is_some heap.serves) heaps, few)
 
 -- an allocation tries each heap once at most
-pub few_places : (pools : List PoolLine) (own : ℕ) (name : Option (List ℕ)) (choice : SocketChoice) (places : List SocketHeap)
-    → map named_heap places ≡ heaps_for own (socket_heaps pools) name choice → length places ≤ MAX_HEAPS
+pub few_places : (pools : List PoolLine) (own : ℕ) (name : Option (List ℕ)) (choice : SocketChoice) (places : List SearchedHeap)
+    → places ≡ map place_named (heaps_for own (socket_heaps pools) name choice) → length places ≤ MAX_HEAPS
 few_places pools own name choice places are =
-    omega (arith, few_chosen pools own name choice, length-named places, ap length are)
+    omega (
+      arith,
+      few_chosen (socket_heaps pools) own name choice (few_socket_heaps pools),
+      length-map (heaps_for own (socket_heaps pools) name choice) place_named,
+      ap length are,
+    )
+
+-- and so does a reservation
+pub few_zone_places : (plain : PlainDirectory) (own : ℕ) (name : Option (List ℕ)) (choice : SocketChoice) (places : List SearchedHeap)
+    → places ≡ map place_named (heaps_for own (heaps_in plain) name choice) → length places ≤ MAX_HEAPS
+few_zone_places plain own name choice places are =
+    omega (
+      arith,
+      few_chosen (heaps_in plain) own name choice (few_heaps_in plain),
+      length-map (heaps_for own (heaps_in plain) name choice) place_named,
+      ap length are,
+    )

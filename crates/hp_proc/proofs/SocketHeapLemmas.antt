@@ -3,16 +3,15 @@ use Rattle.std.proofs.Common.{◌≡◌, ℕ, zero, suc, ◌+◌, ◌<◌, ◌�
 use Rattle.std.specs.List.{All, Contains, range_with_len}
 use Rattle.std.specs.Option.{option_map, option_map_or}
 use Rattle.std.proofs.lemmas.List.{append-nil, map-append}
-use Rattle.std.proofs.lemmas.List.Elements.{All-cons, All-contains, All-map, All-nil, All-weaker, filter-append}
+use Rattle.std.proofs.lemmas.List.Elements.{All-cons, All-contains, All-nil, All-weaker, filter-append}
 use Rattle.std.proofs.lemmas.Option.{slice_get-get_or, slice_get-map, slice_get_past}
 use Rattle.hp_base.specs.declared.limits.TheConstants.{MAX_HEAPS}
 use Rattle.hp_base.specs.declared.pool_line.PoolLine.{PoolLine}
 use Rattle.hp_heap.specs.PlainHeap.{socket_name}
 use Rattle.hp_proc.proofs.Mapped.{All-unmapped, length-filter_le, map-mapped}
-use Rattle.hp_proc.specs.Contexts.{AreSocketHeaps, IsPlaceOf, IsSocketHeapOf, named_heap, searched_heap}
+use Rattle.hp_proc.specs.Contexts.{AreSocketHeaps, IsSocketHeapOf, named_heap, searched_heap}
 use Rattle.hp_proc.specs.Heaps.{NamedHeap, heaps_from, names_socket, socket_heaps, sockets_of}
-use Rattle.hp_proc.specs.PlaceLists.{socket_places}
-use Rattle.hp_proc.specs.declared.searched_heap.SearchedHeap.{SearchedHeap}
+use Rattle.hp_proc.specs.PlaceLists.{place_named}
 use Rattle.hp_proc.specs.declared.socket_heap.SocketHeap.{SocketHeap}
 
 -- these are the heaps of the named sockets below a number
@@ -135,14 +134,6 @@ each_of_socket pools named places are all place among =
     (All-contains (λ (heap : SocketHeap). IsListed pools (named_heap heap)) places place
     (All-unmapped (IsListed pools) named_heap places named are all) among).serves
 
--- the places of all heaps of sockets are such
-pub all_socket_places : (pools : List PoolLine) → All (IsPlaceOf pools) (socket_places pools)
-all_socket_places pools =
-    let place_of_named : NamedHeap → SearchedHeap = λ heap. record { index = heap.index; serves = heap.serves } in
-    All-map (IsPlaceOf pools) place_of_named (socket_heaps pools)
-    (All-weaker (IsListed pools) (λ (heap : NamedHeap). IsPlaceOf pools (place_of_named heap)) (λ heap at. record { few = at.few; serves = sym at.serves })
-    (socket_heaps pools) (all_listed pools))
-
 served_from : (k : ℕ) (sockets : List ℕ) → map (λ (heap : NamedHeap). option_map_or (λ (socket : ℕ). socket) heap.serves 0) (heaps_from k sockets) ≡ sockets
 served_from k [] = refl
 served_from k (socket ∷ sockets) = ap (λ rest. socket ∷ rest) (served_from (k + 1) sockets)
@@ -168,9 +159,6 @@ pub socket_past : (pools : List PoolLine) (heaps : List SocketHeap) (place : ℕ
 socket_past pools heaps place are past =
     ap (option_map (λ (heap : SocketHeap). heap.socket)) (sym (slice_get_past heaps place past)) ∙ socket_at pools heaps place are
 
--- the places of all heaps, as they are looked for by name
-pub places_named : (pools : List PoolLine) (heaps : List SocketHeap) → AreSocketHeaps pools heaps
-    → map searched_heap heaps ≡ map (λ (heap : NamedHeap). record { index = heap.index; serves = heap.serves }) (socket_heaps pools)
-places_named pools heaps are =
-    let place_of_named : NamedHeap → SearchedHeap = λ heap. record { index = heap.index; serves = heap.serves } in
-    sym (map-mapped place_of_named named_heap heaps) ∙ ap (map place_of_named) are
+-- the places of heaps of sockets are those of the heaps with their names
+pub places_named : (heaps : List SocketHeap) → map searched_heap heaps ≡ map place_named (map named_heap heaps)
+places_named heaps = sym (map-mapped place_named named_heap heaps)

@@ -63,7 +63,7 @@ slot_there [] n k socket is = cc
 slot_there (first ∷ sockets) n zero socket is = ap (λ (found : Option ℕ). option_map socket_heap found) is
 slot_there (first ∷ sockets) n (suc k) socket is = slot_there sockets n k socket is
 
-slot_past : (sockets : List ℕ) (n index : ℕ) → length sockets ≤ index
+pub slot_past : (sockets : List ℕ) (n index : ℕ) → length sockets ≤ index
     → option_flatten (slice_get (map socket_heap sockets ++ replicate n no_heap) index) ≡ None
 slot_past [] n index past = no_name n index
 slot_past (socket ∷ sockets) n zero past = absurd (omega (arith, past))

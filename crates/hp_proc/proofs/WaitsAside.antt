@@ -11,11 +11,9 @@ use Rattle.hp_hall.specs.declared.note.Note.TheVariants.{Read, Yielded}
 use Rattle.hp_segs.specs.declared.ask.Ask.{Ask}
 use Rattle.hp_serve.specs.AskSteps.{DoesAsk, DoesAskOn, IsAwaitedBy, IsAwaitedOn, IsSentAs, IsSettledLate, IsSettledOn}
 use Rattle.hp_serve.specs.Denials.{Denials}
-use Rattle.hp_serve.specs.Looking.{IsLookAt}
 use Rattle.hp_serve.specs.Party.{Party}
 use Rattle.hp_serve.specs.Waiting.{AreServings, AreTurns, AreTurnsOn, HaveServed, HaveServedOn, IsOutlasted, IsServedOut, IsTurned, IsTurnedOn, IsWaited, IsWaitedOut}
 use Rattle.hp_serve.specs.declared.pages_asked.PagesAsked.{PagesAsked}
-use Rattle.hp_serve.specs.declared.settling.Found.{Found}
 use Rattle.hp_proc.proofs.ServesAside.{AreAside, IsAside, aside_as, aside_then, served_aside}
 
 -- such steps leave the names in hand, or not in hand
@@ -119,9 +117,6 @@ module _ (denies : Denials) (count : ℕ) where
       aside_as steps _ did
       (aside_then first rest (wait_aside until heeds party mid first None waits) (outlasted until heeds mid after rest ended lasts))
 
-  looked_aside : (ask : Ask) (steps : List MailStep) (answer : Found) → IsLookAt ask steps answer → IsAside steps
-  looked_aside ask steps answer look = aside_as steps _ look.are (refl, refl, tt, (refl, refl, tt, refl))
-
   sent_aside : (party : Party) (ask : Ask) (since : ℕ) (steps : List MailStep) → IsSentAs party ask since steps → IsAside steps
   sent_aside party ask since steps sent =
       aside_as steps _ sent.are (refl, refl, tt, (refl, refl, tt, ((_, sent.says, tt), refl)))
@@ -137,11 +132,11 @@ module _ (denies : Denials) (count : ℕ) where
       → IsAwaitedBy denies count party after ask since steps run → IsAside steps
   awaited_by party after ask since steps run (IsAwaitedBy.finds now waited looked waits look did) =
       aside_as steps _ did
-      (aside_then waited looked (wait_aside _ true party after waited (Some now) waits) (looked_aside ask looked _ look))
+      (aside_then waited looked (wait_aside _ true party after waited (Some now) waits) (aside_as looked _ look.are (refl, refl, tt, (refl, refl, tt, refl))))
   awaited_by party after ask since steps run (IsAwaitedBy.settles mid now waited looked late waits look settled did) =
       aside_as steps _ did
       (aside_then waited _ (wait_aside _ true party mid waited (Some now) waits)
-      (aside_then looked late (looked_aside ask looked _ look) (settled_late mid after ask since late settled)))
+      (aside_then looked late (aside_as looked _ look.are (refl, refl, tt, (refl, refl, tt, refl))) (settled_late mid after ask since late settled)))
 
   -- an ask
   pub ask_aside : (party after : Party) (asked : PagesAsked) (steps : List MailStep) (run : Option Run)
@@ -162,11 +157,11 @@ module _ (denies : Denials) (count : ℕ) where
       → IsAwaitedOn denies count party after ask since steps run stopped → IsAside steps
   awaited_on party after ask since steps run stopped (IsAwaitedOn.finds now waited looked waits look did) =
       aside_as steps _ did
-      (aside_then waited looked (waited_out _ true party after waited now stopped waits) (looked_aside ask looked _ look))
+      (aside_then waited looked (waited_out _ true party after waited now stopped waits) (aside_as looked _ look.are (refl, refl, tt, (refl, refl, tt, refl))))
   awaited_on party after ask since steps run stopped (IsAwaitedOn.settles mid now waited looked late first second waits look settled did is) =
       aside_as steps _ did
       (aside_then waited _ (waited_out _ true party mid waited now first waits)
-      (aside_then looked late (looked_aside ask looked _ look) (settled_on mid after ask since late second settled)))
+      (aside_then looked late (aside_as looked _ look.are (refl, refl, tt, (refl, refl, tt, refl))) (settled_on mid after ask since late second settled)))
 
   -- also where somebody may stop meanwhile
   pub ask_on_aside : (party after : Party) (asked : PagesAsked) (steps : List MailStep) (run : Option Run) (stopped : Bool)

@@ -24,6 +24,7 @@ use Rattle.hp_script.specs.declared.answer.Answer.TheVariants as answer
 use Rattle.hp_script.specs.declared.line.Act.{Act}
 use Rattle.hp_script.specs.declared.line.Act.TheVariants as act
 use Rattle.hp_zone.specs.Directory.{PlainDirectory}
+use Rattle.hp_zone.specs.Zones.{IsZoneName}
 
 -- an act is one of a line on external heaps: it makes one, destroys it, brings memory to it or takes that away, or attaches memory of it or
 -- leaves it
@@ -121,6 +122,11 @@ pub record IsMeant (plain : PlainDirectory) (text : List ℕ) (index : ℕ) : Ty
   pub named : IsExternalName plain text index socket
   pub few : index < MAX_HEAPS
 
+-- and may be the name of one
+pub record IsNamedHeap (plain : PlainDirectory) (text : List ℕ) (index : ℕ) : Type 0 where
+  pub name : IsZoneName text
+  pub meant : IsMeant plain text index
+
 -- an answer is that of a line that makes no heap, of one whose text names no external heap, and of one whose text names no heap with chunks
 abbrev pub IsCreateAnswer : PlainDirectory → List ℕ → Answer → Type 0
 IsCreateAnswer plain text given = (fault : CreateFault) × (create_said fault ≡ Some given) × IsCreateFault plain text fault
@@ -138,9 +144,9 @@ MeansHeap heap refused (Err given) = refused given
 
 abbrev pub IsHeapMeant : Act → PlainDirectory → Result ℕ Answer → Type 0
 IsHeapMeant (act.Heap name) plain = MeansHeap (IsPlaceFor plain name.text) (IsCreateAnswer plain name.text)
-IsHeapMeant (act.Unheap name) plain = MeansHeap (IsMeant plain name.text) (IsNameAnswer plain name.text)
-IsHeapMeant (act.Add heap addr len page) plain = MeansHeap (IsMeant plain heap.text) (IsNameAnswer plain heap.text)
-IsHeapMeant (act.Remove heap addr len) plain = MeansHeap (IsMeant plain heap.text) (IsNameAnswer plain heap.text)
+IsHeapMeant (act.Unheap name) plain = MeansHeap (IsNamedHeap plain name.text) (IsNameAnswer plain name.text)
+IsHeapMeant (act.Add heap addr len page) plain = MeansHeap (IsNamedHeap plain heap.text) (IsNameAnswer plain heap.text)
+IsHeapMeant (act.Remove heap addr len) plain = MeansHeap (IsNamedHeap plain heap.text) (IsNameAnswer plain heap.text)
 IsHeapMeant (act.Map heap addr len) plain = MeansHeap (IsMeant plain heap.text) (IsChunkAnswer plain heap.text)
 IsHeapMeant (act.Unmap heap addr len) plain = MeansHeap (IsMeant plain heap.text) (IsChunkAnswer plain heap.text)
 IsHeapMeant _ plain = λ meant. ⊥

@@ -8,14 +8,17 @@ use Rattle.hp_base.specs.declared.row.Row.{Row}
 use Rattle.hp_hall.specs.Giving.{IsGiveOf}
 use Rattle.hp_hall.specs.HallState.{Did, HallState, HasMapped, IsLater, OthersStay, SlotsStay, known_to}
 use Rattle.hp_hall.specs.Holding.{IsPartBeside}
-use Rattle.hp_hall.specs.Mail.{MailStep, Takes}
+use Rattle.hp_hall.specs.Mail.{Gives, MailStep, Takes}
 use Rattle.hp_hall.specs.Naming.{marked_by}
 use Rattle.hp_hall.specs.Own.{rows_known}
 use Rattle.hp_hall.specs.Telling.{has_names}
 use Rattle.hp_hall.specs.Values.{HasNames, IsSoundKept}
-use Rattle.hp_hall.specs.declared.kept.Kept.TheVariants.{Names}
+use Rattle.hp_hall.specs.declared.kept.Kept.{Kept}
+use Rattle.hp_hall.specs.declared.kept.Kept.TheVariants.{Heap, Names}
 use Rattle.hp_hall.specs.declared.slot.TheConstants.{NAMES_SLOT}
 use Rattle.hp_heap.specs.History.{HeapView}
+use Rattle.hp_heap.specs.PlainHeap.{PlainHeap}
+use Rattle.hp_heap.specs.declared.entry.Entry.{Entry}
 use Rattle.hp_maps.specs.Chunks.{rows_of_chunk}
 use Rattle.hp_script.specs.declared.answer.Answer.{Answer}
 use Rattle.hp_script.specs.declared.answer.Answer.TheVariants.{Address}
@@ -27,12 +30,15 @@ use Rattle.hp_script.specs.declared.options.SocketChoice.{SocketChoice}
 use Rattle.hp_proc.specs.Acting.{Acts}
 use Rattle.hp_proc.specs.Awaiting.{MayAwait}
 use Rattle.hp_proc.specs.Doing.{Doing}
+use Rattle.hp_proc.specs.Doing.Done.{HeapSeen, NamesRead}
+use Rattle.hp_proc.specs.ExternalLines.{seeing_heap}
 use Rattle.hp_proc.specs.Halting.{Halts, HaltsLine}
 use Rattle.hp_proc.specs.Handing.{shared_of}
 use Rattle.hp_proc.specs.Heaps.{has_name, heaps_for, socket_heaps, sockets_of}
 use Rattle.hp_proc.specs.Contexts.{IsPlaceOf}
 use Rattle.hp_proc.specs.Courses.{heap_of_element}
 use Rattle.hp_proc.specs.Lines.{Maker, is_own_maker, reading_names}
+use Rattle.hp_proc.specs.NamesOfLines.{steps_of_names}
 use Rattle.hp_proc.specs.OwnChunks.{AreMarkedAs}
 use Rattle.hp_proc.specs.PlaceLists.{place_named}
 use Rattle.hp_proc.specs.declared.searched_heap.SearchedHeap.{SearchedHeap}
@@ -70,6 +76,12 @@ DoesApartHere me old new from to doing rest = DoesApart from.count (did_in me fr
 abbrev pub DoesHeld : ℕ → ParticipantView → ParticipantView → HeapView → HeapView → HallState → HallState → Doing → Doing → Type 0
 DoesHeld me old new before behind from to doing rest =
     Does [] from.count (did_in me from to) doing rest (moment_with before me old from) (moment_with behind me new to)
+
+-- it took the heap of that index, which was handed over with its history, and took notice of nothing else
+pub record SeesHeap (index me : ℕ) (old new : ParticipantView) (heap : HeapView) (from to : HallState) (goes : PlainHeap → Doing) : Type 0 where
+  pub does : Does (index ∷ []) from.count (did_in me from to) (seeing_heap index goes) (goes heap.plain) (moment me old from) (moment_with heap me new to)
+  pub history : List Entry
+  pub alone : does.trace ≡ HeapSeen index history ∷ []
 
 abbrev pub DoesLineHere : ℕ → ParticipantView → ParticipantView → HallState → HallState → Line → Answer → Type 0
 DoesLineHere me old new from to line given = DoesLine from.count (did_in me from to) line given (moment me old from) (moment me new to)
@@ -137,6 +149,11 @@ pub record AreFreeBesideNames (slot me : ℕ) (old new : HallState) : Type 0 whe
 abbrev pub MayGiveBeside : ℕ → HallState → Type 0
 MayGiveBeside me state = (state.taken NAMES_SLOT ≡ None) ⊎ (has_names (state.done me) ≡ true)
 
+-- it has the names in hand: by its steps, and their value is out
+pub record HasNamesOut (me : ℕ) (state : HallState) : Type 0 where
+  pub told : has_names (state.done me) ≡ true
+  pub out : state.taken NAMES_SLOT ≢ None
+
 -- the slot is free: it is not out, and may be taken
 pub record IsFreeAt (slot : ℕ) (state : HallState) : Type 0 where
   pub taken : state.taken slot ≡ None
@@ -190,11 +207,20 @@ pub record HoldsIn (me : ℕ) (doer : ParticipantView) (heap : HeapView) (state 
   pub named : (state.named me).sockets ≡ sockets_of doer.context.pools
   pub mapped : HasMapped me state
 
--- the heap of that index is the one that it has in hand, with the pen that it has taken with it
+-- a heap in hand is as it was taken, but for its room for calls
+pub record IsAsTaken (taken : ℕ → Option Kept) (heap : HeapView) : Type 0 where
+  pub was : HeapView
+  pub pen : PenView
+  pub out : taken heap.plain.index ≡ Some (Heap was pen)
+  pub same : was.plain ≡ heap.plain
+  pub left : was.history ≡ heap.history
+
+-- the heap of that index is the one that it has in hand, as it was taken, with the pen that it has taken with it
 pub record HoldsHeap (slot me : ℕ) (doer : ParticipantView) (heap : HeapView) (pen : PenView) (state : HallState) : Type 0 where
   pub holds : HoldsIn me doer heap state
   pub index : heap.plain.index ≡ slot
   pub taken_with : IsTakenWith state.taken heap.plain.index pen
+  pub as_taken : IsAsTaken state.taken heap
 
 -- a heap in hand has room for so many calls, and the numbers of its holder's calls have
 pub record HasRoom (calls : ℕ) (heap : HeapView) (doer : ParticipantView) : Type 0 where
@@ -289,6 +315,12 @@ pub record HoldsNames (me : ℕ) (old new : ParticipantView) (names : NamesView)
   pub acts : Acts from.count None None [] old new [] waited
   pub later : IsLater from to
 
+-- it read the names, and did nothing else
+pub record ReadsNames (me : ℕ) (old new : ParticipantView) (names : NamesView) (from to : HallState) (goes : SharedNames → Doing) : Type 0 where
+  pub does : DoesHere [] me old new from to (reading_names goes) (goes (shared_of names))
+  pub trace : does.trace ≡ NamesRead (shared_of names) ∷ []
+  pub steps : steps_of_names does.steps ≡ Takes NAMES_SLOT (Names names) ∷ Gives NAMES_SLOT (Names names) ∷ []
+
 -- it has read the names under their slot, and gave them back as they were; by them the directory of heaps is what their changes leave, and each
 -- heap that has a name there takes the pages of the socket that has its place, or nobody's
 pub record HasRead (me : ℕ) (old new : ParticipantView) (names : NamesView) (from to : HallState) : Type 0 where
@@ -296,7 +328,7 @@ pub record HasRead (me : ℕ) (old new : ParticipantView) (names : NamesView) (f
   pub leaves : names.heaps.plain ≡ directory_in old.context.pools (shared_of names)
   pub places : All (λ heap. IsPlaceOf old.context.pools (place_named heap)) (heaps_in names.heaps.plain)
   pub context : new.context ≡ old.context
-  pub reads : (goes : SharedNames → Doing) → DoesHere [] me old new from to (reading_names goes) (goes (shared_of names))
+  pub reads : (goes : SharedNames → Doing) → ReadsNames me old new names from to goes
 
 -- and the text names that heap there, or none; or those are all heaps there
 pub record HasReadNames (me : ℕ) (old new : ParticipantView) (text : List ℕ) (found : Option SearchedHeap) (from to : HallState) : Type 0 where
@@ -320,11 +352,17 @@ ChoosesBy me old new None choice places same from to = (new ≡ old) × same
 abbrev pub ChoosesPlaces : ℕ → ParticipantView → ParticipantView → Options → List SearchedHeap → Type 0 → HallState → HallState → Type 0
 ChoosesPlaces me old new options places same from to = ChoosesBy me old new options.heap options.socket places same from to
 
+-- it stopped over that: it had read the names where a heap is named, and else nothing of its line was done
+abbrev pub StopsChoosing : ℕ → ParticipantView → ParticipantView → Option Part → HallState → HallState → Type 0
+StopsChoosing me old new (Some name) from to = (goes : SharedNames → Doing) → HaltsHere [] me old new from to (reading_names goes)
+StopsChoosing me old new None from to = (doing : Doing) → HaltsHere [] me old new from to doing
+
 -- it knows in which heaps it looks for what a line made: the one in which its own line put it, for which nothing was done, or, for which it read
 -- the names, all that have a name
 abbrev pub FindsBy : Bool → ℕ → ParticipantView → ParticipantView → Maker → List SearchedHeap → Type 0 → HallState → HallState → Type 0
 FindsBy true me old new maker places same from to = (new ≡ old) × same
     × (places ≡ option_to_list (heap_of_element old.context.pools old.context.standing.elements (Some maker)))
+    × All (IsPlaceOf old.context.pools) places
 FindsBy false me old new maker places same from to = HasReadAll me old new places from to
 
 abbrev pub FindsPlaces : ℕ → ParticipantView → ParticipantView → Maker → List SearchedHeap → Type 0 → HallState → HallState → Type 0

@@ -2,7 +2,8 @@
 use Rattle.std.specs.Prelude.{◌≡◌, ℕ, ◌==◌, List, [], ◌∷◌, Ok, Some, None, true, if◌then◌else◌}
 use Rattle.std.specs.Option.{option_map}
 use Rattle.hp_hall.specs.Giving.{IsGiveOf}
-use Rattle.hp_hall.specs.HallState.{Did, HallState, OthersStay, SlotsStayBut, known_to}
+use Rattle.hp_hall.specs.HallCalls.{HasGiven}
+use Rattle.hp_hall.specs.HallState.{HallState, OthersStay, SlotsStayBut, known_to}
 use Rattle.hp_hall.specs.Holding.{AgreeWith, HeapPart}
 use Rattle.hp_hall.specs.Named.{GivesNames}
 use Rattle.hp_hall.specs.Naming.{naming_of}
@@ -15,15 +16,12 @@ use Rattle.hp_heap.specs.declared.entry.Entry.{Entry}
 use Rattle.hp_proc.specs.Doing.{Doing}
 use Rattle.hp_proc.specs.ExternalAnswers.{IsHeapMeant}
 use Rattle.hp_proc.specs.Heaps.{sockets_of}
-use Rattle.hp_proc.specs.LineInHall.{DoesHeld, DoesHere, DoesOnceHere, HaltsHeld, HaltsHere, HoldsIn, IsReadyBut}
+use Rattle.hp_proc.specs.LineInHall.{DoesHeld, DoesHere, DoesOnceHere, HaltsHeld, HaltsHere, IsReadyBut, KeepsHeld}
 use Rattle.hp_proc.specs.NamesOfLines.{ChangesNames}
 use Rattle.hp_proc.specs.ParticipantView.{ParticipantView, with_calls}
-use Rattle.hp_proc.specs.Progress.{AreOnce}
+use Rattle.hp_proc.specs.Progress.{AreOnce, with_hand}
 use Rattle.hp_script.specs.declared.line.Act.{Act}
-use Rattle.hp_segs.specs.SegsView.{SegsView}
 use Rattle.hp_serve.specs.Party.{IsSameParty}
-use Rattle.hp_serve.specs.SegmentSlot.{StaysButParts}
-use Rattle.hp_serve.specs.Serving.{gives_segments, takes_segments}
 use Rattle.hp_zone.specs.Directory.{PlainDirectory}
 use Rattle.hp_zone.specs.declared.names.Names.{Names as NamesView}
 
@@ -49,14 +47,17 @@ pub record IsReadyNamed (me : ℕ) (doer : ParticipantView) (names : NamesView) 
   pub agrees : AgreeWith (state.part me) names
   pub sockets : names.heaps.sockets ≡ sockets_of doer.context.pools
 
--- it has the names and a heap in hand; they agree but for what they say of that heap and of its memory
-pub record HoldsNamed (me : ℕ) (doer : ParticipantView) (names : NamesView) (heap : HeapView) (state : HallState) : Type 0 where
-  pub holds : HoldsIn me doer heap state
+-- its entries in the heaps, with those of the heap in its hand
+abbrev pub entries_with : ℕ → HeapView → HallState → ℕ → List Entry
+entries_with me heap state index = (with_hand me heap (state.part me) index).entries
+
+-- beside a heap it has the names in hand, as they are by now; they agree but for what they say of that heap and of its memory
+pub record HasNamesBeside (me : ℕ) (doer : ParticipantView) (names : NamesView) (heap : HeapView) (state : HallState) : Type 0 where
   pub told : has_names (state.done me) ≡ true
   pub was : NamesView
   pub taken : state.taken NAMES_SLOT ≡ Some (Names was)
   pub sound : IsSoundKept (Names names)
-  pub goes_on : GivesNames (entries_in me state) was names
+  pub goes_on : GivesNames (entries_with me heap state) was names
   pub agrees : AgreeWith (with_naming heap (state.part me)) names
   pub sockets : names.heaps.sockets ≡ sockets_of doer.context.pools
 
@@ -88,8 +89,7 @@ pub record MayGiveNames (me : ℕ) (doer : ParticipantView) (names : NamesView) 
 
 -- it gave the names back, and nothing else changed
 pub record GivesNamesBack (me : ℕ) (doer : ParticipantView) (names : NamesView) (old new : HallState) : Type 0 where
-  pub free : new.taken NAMES_SLOT ≡ None
-  pub home : new.may_take NAMES_SLOT
+  pub given : HasGiven me NAMES_SLOT (Names names) old new
   pub slots : SlotsStayBut NAMES_SLOT old new
   pub others : OthersStay me old new
 
@@ -125,14 +125,10 @@ pub record HaltsNamedHeld (me : ℕ) (old new : ParticipantView) (before after :
   pub halts : HaltsHeld me old new heap heap' from to doing
   pub names : ChangesNames before after halts.trace
 
--- it did something with the names and a heap in hand, and has them in hand still; it is the same one of the same workload, and nobody else did
--- anything
+-- it did something with the names and a heap in hand, and has both in hand still; nobody else did anything
 pub record KeepsNamed (me : ℕ) (old new : ParticipantView) (names : NamesView) (heap heap' : HeapView) (from to : HallState) : Type 0 where
-  pub holds : HoldsNamed me new names heap' to
-  pub index : heap'.plain.index ≡ heap.plain.index
-  pub its_socket : heap'.plain.serves ≡ heap.plain.serves
-  pub same : IsSameParty old.party new.party
-  pub pools : new.context.pools ≡ old.context.pools
+  pub held : KeepsHeld me old new heap heap' from to
+  pub beside : HasNamesBeside me new names heap' to
   pub others : OthersStay me from to
 
 -- nothing changed
@@ -140,13 +136,6 @@ pub record StandsStill (old new : ParticipantView) (before after : NamesView) (h
   pub doer : new ≡ old
   pub names : after ≡ before
   pub heap_is : heap' ≡ heap
-
--- it took the segment value and gave it back as it was
-pub record LooksAtSegs (me : ℕ) (old new : HallState) : Type 0 where
-  pub taken : SegsView
-  pub did : Did me (takes_segments taken ∷ gives_segments taken ∷ []) old new
-  pub stays : StaysButParts me old new
-  pub part : (heap : ℕ) → new.part me heap ≡ old.part me heap
 
 -- the heap of that index is the one that a line on external heaps means
 abbrev pub IsIndexMeant : Act → PlainDirectory → ℕ → Type 0

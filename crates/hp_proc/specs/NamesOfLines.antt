@@ -4,7 +4,7 @@ use Rattle.hp_hall.specs.Mail.{MailStep, Gives, Takes}
 use Rattle.hp_hall.specs.declared.kept.Kept.TheVariants.{Names}
 use Rattle.hp_hall.specs.declared.slot.TheConstants.{NAMES_SLOT}
 use Rattle.hp_proc.specs.Doing.{Done}
-use Rattle.hp_proc.specs.Doing.Done.{GaveUp, NamesRead}
+use Rattle.hp_proc.specs.Doing.Done.{GaveUp, NamesRead, StatsRead}
 use Rattle.hp_proc.specs.Handing.{shared_of}
 use Rattle.hp_proc.specs.NamesLog.{change_made}
 use Rattle.hp_proc.specs.SharedNames.{SharedNames, names_with}
@@ -37,9 +37,10 @@ pub data NamesOfLine (trace : List Done) (steps : List MailStep) : Type 0 where
       → steps_of_names steps ≡ Takes NAMES_SLOT (Names taken) ∷ Gives NAMES_SLOT (Names given) ∷ [] → trace ≡ NamesRead (shared_of taken) ∷ rest
       → names_read rest ≡ [] → shared_of given ≡ names_after (shared_of taken) rest → NamesOfLine trace steps
 
--- a trace tells the coordinator of no run that was given up
+-- a trace tells the coordinator of no run that was given up, and reads no statistics
 abbrev pub IsUntold : Done → Type 0
 IsUntold (GaveUp heap run) = ⊥
+IsUntold (StatsRead heap counted) = ⊥
 IsUntold _ = ⊤
 
 abbrev pub AreUntold : List Done → Type 0
@@ -47,7 +48,7 @@ AreUntold [] = ⊤
 AreUntold (done ∷ trace) = IsUntold done × AreUntold trace
 
 -- What it did with the names in hand, from one value of them to another one, beside what it did else: their changes are those of its trace, in
--- order; it read them no more, and told the coordinator of no run.
+-- order; it read them no more, told the coordinator of no run, and read no statistics.
 pub record ChangesNames (before after : NamesView) (trace : List Done) : Type 0 where
   pub changed : shared_of after ≡ names_after (shared_of before) trace
   pub unread : names_read trace ≡ []

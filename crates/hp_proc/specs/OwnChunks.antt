@@ -1,7 +1,6 @@
 -- The chunks that a participant has attached, as it notes them: by heap and by address.
-use Rattle.std.specs.Prelude.{◌≡◌, ℕ, ◌<◌, Bool, not, ◌&&◌, ◌||◌, ◌==◌, nat_lt, true, List, [], ◌∷◌, ◌++◌, filter, map, Option, Some, None, Contains}
-use Rattle.std.specs.List.{All}
-use Rattle.std.specs.List.Sorted.{IsSortedBy}
+use Rattle.std.specs.Prelude.{◌≡◌, ℕ, ◌<◌, Bool, not, ◌&&◌, ◌||◌, ◌==◌, nat_lt, true, List, [], ◌∷◌, ◌++◌, filter, map, Option, Some, None, Contains, ⊤}
+use Rattle.std.specs.List.{AllByRecursion}
 use Rattle.hp_base.specs.declared.chunk.Chunk.{Chunk}
 use Rattle.hp_base.specs.declared.limits.TheConstants.{MAX_HEAPS}
 use Rattle.hp_external.specs.Attaching.{IsOwnChunkAt}
@@ -33,10 +32,15 @@ chunks_of heap chunks = filter (λ chunk. chunk.heap == heap) chunks
 abbrev pub chunks_beside : ℕ → List OwnChunk → List OwnChunk
 chunks_beside heap chunks = filter (λ chunk. not (chunk.heap == heap)) chunks
 
--- they lie in heaps, and each stands before the next
+-- each stands before those after it
+abbrev pub AreRising : List OwnChunk → Type 0
+AreRising [] = ⊤
+AreRising (chunk ∷ chunks) = AllByRecursion (λ other. is_before chunk other ≡ true) chunks × AreRising chunks
+
+-- they lie in heaps, and each stands before those after it
 pub record AreOwnChunks (chunks : List OwnChunk) : Type 0 where
-  pub few : All (λ chunk. chunk.heap < MAX_HEAPS) chunks
-  pub rising : IsSortedBy is_before chunks
+  pub few : AllByRecursion (λ chunk. chunk.heap < MAX_HEAPS) chunks
+  pub rising : AreRising chunks
 
 -- those of that heap stand first
 abbrev pub AreFirstOf : ℕ → List OwnChunk → Type 0

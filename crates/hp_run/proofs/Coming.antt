@@ -15,11 +15,12 @@ use Rattle.hp_log.specs.declared.log_record.LogRecord.{LogRecord}
 use Rattle.hp_maps.specs.MapsView.{MapsView, chunk_rows, table_in}
 use Rattle.hp_script.specs.declared.workload.Workload.{Workload}
 use Rattle.hp_serve.specs.Party.{Party}
-use Rattle.hp_serve.specs.Tied.{HasTable, IsTied, nothing_yet, part_of}
+use Rattle.hp_serve.specs.Tied.{HasChunks, HasTable, IsTied, no_chunks, nothing_yet, part_of}
+use Rattle.hp_serve.proofs.Attached.{nothing_marked}
 use Rattle.hp_proc.specs.Contexts.{Context}
 use Rattle.hp_proc.proofs.Unarmed.{all_alike}
 use Rattle.hp_solo.specs.Sequence.{going_place}
-use Rattle.hp_solo.specs.Solo.{IsTiedAt, AloneView, SoloView, nobody, server_at, with_party}
+use Rattle.hp_solo.specs.Solo.{IsTiedAt, AloneView, SoloView, marked_at, nobody, server_at, with_party}
 use Rattle.hp_solo.proofs.SoloWaits.{tied_first}
 use Rattle.thm_run.specs.Drops.{DropsOpen}
 use Rattle.thm_run.specs.Freed.{ShownOpen}
@@ -28,6 +29,7 @@ use Rattle.thm_run.specs.EndLaws.{IsFirstParty, IsGiven, OpensSoFar}
 use Rattle.thm_run.specs.SoFar.{SoFar, first_names, first_segs}
 use Rattle.thm_run.proofs.SeatFacts.FirstSegs.{member_first}
 use Rattle.thm_run.proofs.RunFacts.SoFarFacts.{held_many}
+use Rattle.thm_run.proofs.RunFacts.Unmarked.{first_unmarked}
 use Rattle.thm_causes.specs.Threads.{OneThread}
 use Rattle.hp_run.specs.Opening.{HaveCome, IsFirstHall, IsPartyOver, IsPlannedParty}
 use Rattle.hp_run.specs.Running.{CanGoOn, IsRunnable, KnowSoFar}
@@ -41,6 +43,7 @@ given_by workload runnable = record {
   present = bit_at_lowest workload.absent ∙ runnable.absent.primary;
   pools = runnable.pools;
   deadline = runnable.limits.short;
+  awaits = runnable.awaits;
 }
 
 -- lists of which each place has the same are the same
@@ -175,20 +178,20 @@ module _ (workload : Workload) (who : ℕ) (may_fail : Option (List FailingCall)
     pub number_planned : party.me ≡ who
     number_planned = ap (λ (party : Party). party.me) planned.is
 
-    tied_new : (log : List LogRecord) → IsTied log nothing_yet party.joined party.maps
+    tied_new : (log : List LogRecord) → IsTied log nothing_yet no_chunks party.joined party.maps
     tied_new log =
         let part = first_table party.joined in
         let maps_are : party.maps ≡ planned.maps = ap (λ (party : Party). party.maps) planned.is in
         let empty : party.maps.rows ≡ [] = ap (λ (maps : MapsView). maps.rows) maps_are ∙ planned.table.rows in
         record {
           within = omega arith;
-          table = subst (λ (own : Own). HasTable log own party.maps) (sym part)
+          table = subst (λ (own : Own). HasTable log own no_chunks party.maps) (sym part)
               (record {
                 number = ap (λ (maps : MapsView). maps.number) maps_are ∙ planned.table.number;
                 rows = ap table_in empty;
                 behind = omega arith;
                 seen = omega arith;
-                chunks = ap chunk_rows empty;
+                chunks = subst (HasChunks no_chunks) (sym (ap chunk_rows empty)) nothing_marked;
                 room = omega (arith, ap (λ (maps : MapsView). maps.capacity) maps_are, planned.table.room);
               });
         }
@@ -202,12 +205,17 @@ module _ (workload : Workload) (who : ℕ) (may_fail : Option (List FailingCall)
         ∙ (member_first workload.participants workload.absent who (omega (arith, declared, given.few))
         ∙ sym (ap (λ (party : Party). party.joined) planned.is)))
 
+    -- and has no mark on a chunk of one
+    unmarked_planned : (hall : SoloView) → IsFirstHall workload hall → (heap : ℕ) → marked_at hall.plain who heap ≡ []
+    unmarked_planned hall first heap =
+        ap (λ (plain : HallView). marked_at plain who heap) first.plain ∙ first_unmarked workload first.held first.first who heap
+
     pub tied_planned : IsGiven workload → who < workload.participants → (hall : SoloView) → IsFirstHall workload hall
         → IsTiedAt hall.plain party.me party
     tied_planned given declared hall first =
         tied_first hall.plain who party
         (ap (λ (plain : HallView). own_at plain who) first.plain ∙ all_alike nothing_yet workload.participants who)
-        (joined_planned given declared hall first) number_planned tied_new
+        (joined_planned given declared hall first) (unmarked_planned hall first) number_planned tied_new
 
     pub count_first : (hall : SoloView) → IsFirstHall workload hall → length hall.plain.owns ≡ workload.participants
     count_first hall first =

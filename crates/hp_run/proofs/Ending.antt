@@ -32,15 +32,19 @@ use Rattle.hp_segs.specs.SegsView.{SegsView}
 use Rattle.hp_segs.specs.Sound.{IsSound}
 use Rattle.hp_zone.specs.declared.names.Names.{Names as NamesView}
 use Rattle.hp_serve.specs.Ending.{LeavesTable}
+use Rattle.hp_plain.proofs.Walks.{values_stay_sound}
 use Rattle.hp_proc.specs.Ends.{IsSoloEnd}
+use Rattle.hp_proc.specs.Heaps.{sockets_of}
 use Rattle.hp_serve.specs.Party.{Party}
 use Rattle.hp_solo.specs.Ending.{AreThere, LeaveTables, LeaveWatchers, LeavesListeners, LeavesThere}
 use Rattle.hp_solo.specs.Solo.{SoloView, party_at}
 use Rattle.thm_run.specs.EndLaws.{EndsSo, IsAtEnd, IsGiven}
 use Rattle.thm_run.specs.Handing.{LeaveListeners, listeners_in}
-use Rattle.thm_run.specs.SoFar.{first_hall, first_names, first_segs}
+use Rattle.thm_run.specs.SoFar.{AreSoundNames, first_hall, first_names, first_segs}
 use Rattle.thm_run.proofs.HallFacts.HallEnds.{are_segs, out_many}
-use Rattle.thm_run.proofs.NamesStay.{opened_names}
+use Rattle.thm_run.proofs.HallFacts.HallHeaps.{values_sound}
+use Rattle.thm_run.proofs.SeatFacts.FirstSegs.{armed_first}
+use Rattle.thm_run.proofs.SlotAlong.{opened_names}
 use Rattle.hp_run.specs.Running.{HaveDoneLines}
 use Rattle.hp_run.proofs.Places.{party_there, there_below}
 
@@ -116,15 +120,30 @@ module _ (workload : Workload) (answers : List Answer) (hall : SoloView) (done :
       segs_there =
           ap (λ (slots : List SlotView). segs_in (slice_get slots MAX_HEAPS)) out.slots_are ∙ opened_segs segs names out.held MAX_HEAPS many
 
-      -- the names are those of the beginning
-      pub names_there : names ≡ first_names workload
-      names_there =
-          let here : slice_get (values_in hall.plain) NAMES_SLOT ≡ Some (Names names) =
+      -- the names are those that the lines leave
+      names_stand : slice_get (values_in hall.plain) NAMES_SLOT ≡ Some (Names names)
+      names_stand =
           ap (λ (slots : List SlotView). slice_get (map (λ (slot : SlotView). slot.kept) slots) NAMES_SLOT) out.slots_are
-          ∙ opened_names segs names out.held MAX_HEAPS many in
-          let same : Names names ≡ Names (first_names workload) =
-          same_Some (Names names) (Names (first_names workload)) (sym here ∙ done.so_far.named) in
+          ∙ opened_names segs names out.held MAX_HEAPS many
+
+      names_are : names ≡ done.so_far.names
+      names_are =
+          let same : Names names ≡ Names done.so_far.names =
+          same_Some (Names names) (Names done.so_far.names) (sym names_stand ∙ done.so_far.named) in
           cc
+
+      -- which opened with the heaps of the pools' sockets
+      pub names_opened : names.heaps.sockets ≡ sockets_of workload.pools.items
+      names_opened = ap (λ (names : NamesView). names.heaps.sockets) names_are ∙ done.so_far.opened
+
+      -- their logs leave them
+      pub names_sound : AreSoundNames names
+      names_sound =
+          let so = done.so_far in
+          (values_stay_sound (first_hall workload so.held) hall.plain so.course (λ number kept there.
+          values_sound so.held (first_segs workload) (first_names workload) number kept so.first_heaps.sound first_sound
+          (armed_first workload.pools.items workload.participants workload.absent) so.names_sound there)).1
+          NAMES_SLOT (Names names) names_stand
 
       -- and they agree with the heaps and with the external memory that is claimed
       naming_is : (index : ℕ) → index < MAX_HEAPS → left_naming heaps index ≡ naming_at hall.plain index
@@ -139,14 +158,11 @@ module _ (workload : Workload) (answers : List Answer) (hall : SoloView) (done :
       pub names_agree : IsHall hall.plain → AreAgreedNames names (left_naming heaps) segs.ranges
       names_agree sound =
           let value : sound.segs ≡ segs = same_Some sound.segs segs (sym sound.there ∙ segs_there) in
-          let stand : slice_get (values_in hall.plain) NAMES_SLOT ≡ Some (Names names) =
-          ap (λ (slots : List SlotView). slice_get (map (λ (slot : SlotView). slot.kept) slots) NAMES_SLOT) out.slots_are
-          ∙ opened_names segs names out.held MAX_HEAPS many in
           let same : sound.named.names ≡ names =
           same_Some sound.named.names names
           (sym sound.named.there
           ∙ kept_names (slot_at hall.plain NAMES_SLOT) names
-          (sym (slice_get-map (λ (slot : SlotView). slot.kept) hall.plain.slots NAMES_SLOT) ∙ stand)) in
+          (sym (slice_get-map (λ (slot : SlotView). slot.kept) hall.plain.slots NAMES_SLOT) ∙ names_stand)) in
           subst (λ (names : NamesView). AreAgreedNames names (left_naming heaps) segs.ranges) same
           (subst (λ (value : SegsView). AreAgreedNames sound.named.names (left_naming heaps) value.ranges) value
           (agree_alike sound.named.names (naming_at hall.plain) (left_naming heaps) sound.segs.ranges naming_is

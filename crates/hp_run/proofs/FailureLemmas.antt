@@ -24,7 +24,7 @@ use Rattle.hp_segs.specs.declared.ask.Ask.{Ask}
 use Rattle.hp_proc.specs.LinesDone.{Course}
 use Rattle.hp_serve.specs.Party.{Party}
 use Rattle.hp_solo.specs.Solo.{AloneView, SoloView}
-use Rattle.thm_run.specs.EndLaws.{FailsByReason, FailsFor, FailsOnce, IsGiven, IsRefusedAttach, MayHaveFailed, MayHaveFailedSo, RefusesByReason, RefusesOnce}
+use Rattle.thm_run.specs.EndLaws.{FailsByReason, FailsFor, FailsOnce, IsGiven, IsRefusedMapping, MapsPages, MayHaveFailed, MayHaveFailedSo, RefusesByReason, RefusesOnce}
 use Rattle.hp_run.specs.Ending.{AreAsMay, AreNamed}
 use Rattle.hp_run.specs.Failures.{IsFailedAsPlanned, IsFailureNamed, IsRefusedAt, IsUnsteady, MayFailIn, MayFailSoIn, planned_answer}
 use Rattle.hp_run.specs.Opening.{HaveCome}
@@ -119,11 +119,11 @@ mapped_from f xs place y is =
     let one : Some (f there.0) ≡ Some y = ap (option_map f) (sym there.1) ∙ sym (slice_get-map f xs place) ∙ is in
     (there.0, there.1, same_Some (f there.0) y one)
 
--- a line that attaches and was refused is that of a course
+-- a line that maps pages and was refused is that of a course
 pub record IsRefusedCourse (courses : List Course) (place who call : ℕ) : Type 0 where
   pub course : Course
   pub its : slice_get courses place ≡ Some course
-  pub is : IsRefusedAttach who call course
+  pub is : IsRefusedMapping who call course
 
 pub refused_course : (courses : List Course) (lines : List Line) (answers : List Answer) (place who call : ℕ)
     → map (λ (course : Course). course.line) courses ≡ lines → map (λ (course : Course). course.answer) courses ≡ answers
@@ -141,7 +141,7 @@ refused_course courses lines answers place who call lines_are answered refused =
       its = at.1;
       is = record {
         who = ap (λ (line : Line). line.participant) at.2 ∙ refused.who;
-        act = ap (λ (line : Line). line.act) at.2 ∙ refused.attaches;
+        maps = subst (λ (line : Line). MapsPages line.act) (sym at.2) refused.maps;
         answer = ap (λ (course : Course). course.answer) (sym same) ∙ given.2;
       };
     }

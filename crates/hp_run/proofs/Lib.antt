@@ -8,6 +8,7 @@ mod NextLine
 mod Knowing
 mod Beside
 mod Returning
+mod ToldLine
 mod OneMore
 mod Resting
 mod Ending
@@ -23,7 +24,6 @@ mod ProgramLemmas
 mod MadeLemmas
 mod SummaryLemmas
 mod WorkedFailures
-mod NamesInOrder
 mod Newcomers
 mod KitLemmas
 pub mod Crossing

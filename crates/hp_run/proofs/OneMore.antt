@@ -1,5 +1,5 @@
 -- A participant leaves its place for a line, and comes back: all have done one line more.
-use Rattle.std.proofs.Common.{◌≡◌, ◌≢◌, ◌∙◌, ℕ, ◌+◌, ◌<◌, ◌++◌, Bool, List, [], ◌∷◌, length, set, Option, Some, None, refl, sym, ap, subst, arith}
+use Rattle.std.proofs.Common.{◌≡◌, ◌≢◌, ◌∙◌, ℕ, ◌+◌, ◌<◌, ◌++◌, Bool, false, List, [], ◌∷◌, length, set, Option, Some, None, refl, sym, ap, subst, arith}
 use Rattle.std.specs.List.{Contains, slice_get}
 use Rattle.std.specs.Option.{option_map}
 use Rattle.std.proofs.lemmas.List.{length_push, map-append}
@@ -17,6 +17,7 @@ use Rattle.hp_proc.specs.Courses.{Standing, after_line}
 use Rattle.hp_proc.specs.Doing.{Done}
 use Rattle.hp_proc.specs.LinesDone.{Course, opening_standing, standing_after}
 use Rattle.hp_serve.specs.Party.{IsSameParty, Party}
+use Rattle.hp_proc.specs.OwnChunks.{AreMarkedAs}
 use Rattle.hp_proc.specs.ParticipantView.{ParticipantView, knowing, participant_of}
 use Rattle.hp_proc.specs.Progress.{DoesLine, MayComeAndGo, MayDo, moment_of}
 use Rattle.hp_serve.specs.Tied.{IsTied}
@@ -50,6 +51,8 @@ pub record HasDoneIts (count : ℕ) (line : Line) (answer : Answer) (doer after 
   pub ready : MayDo (moment_of after (part_in new line.participant) (seen_in new) (heard_in new))
   pub tied : IsTied (seen_in new) (own_at new line.participant) (λ (heap : ℕ). (part_in new line.participant heap).marked) after.party.joined
       after.party.maps
+  pub left : after.party.joined ≡ false → (heap : ℕ) → (part_in new line.participant heap).marked ≡ []
+  pub chunks : (heap : ℕ) → AreMarkedAs heap (part_in new line.participant heap).marked after.context.standing.chunks
   pub same : IsSameParty doer.party after.party
   pub told : lines_at new line.participant ≡ lines_at old line.participant + 1
   pub free : (number : ℕ) → taken_from (slot_at new number) ≡ None
@@ -146,7 +149,15 @@ module _ (workload : Workload) (lines : List Line) (answers : List Answer) (line
     before_is = there;
     behind_is = its_place line.participant after.party left now was.parties first away back last is;
     knew = knew;
-    does = record { does = did.does; ready = did.ready; tied = did.tied; same = did.same; told = did.told };
+    does = record {
+      does = did.does;
+      ready = did.ready;
+      tied = did.tied;
+      left = did.left;
+      chunks = did.chunks;
+      same = did.same;
+      told = did.told;
+    };
     others = subst (λ (count : ℕ). OthersServe (λ other. other ≡ line.participant) count left away.plain back.plain was.parties behind_all.0)
         count (others_serve line.participant after.party left now was.parties first away back last is);
     home = λ number below.

@@ -59,7 +59,7 @@ module _ (workload : Workload) (lines : List Line) (answers : List Answer) (old 
       let so = served_so old new (left who) was.parties who (place_at validators old.servers was.parties was.are who) later party after there
       place in
       let tied : IsTiedAt new.plain who after = sound.tied who after (ap party_in place) in
-      record { served = so.0; same = so.1; tied = tied.tied.table }
+      record { served = so.0; same = so.1; tied = tied.tied.table; left = tied.tied.left }
 
   as_before : length behind.0 ≡ length was.parties
   as_before =

@@ -94,6 +94,8 @@ module _ (who : ℕ) (after : Party) (left : ℕ → Standing) (now : ℕ → Li
         tied = subst (λ (hall : HallView). IsTied (seen_in hall) (own_at hall other)
             (λ (heap : ℕ). (part_in hall other heap).marked) after_one.joined after_one.maps) is.came_plain
             tied.tied.table;
+        left = λ out heap.
+            subst (λ (hall : HallView). (part_in hall other heap).marked ≡ []) is.came_plain (tied.tied.left out heap);
       }
 
   pub as_before : length behind.0 ≡ length first.plain.owns

@@ -70,10 +70,10 @@ module _ (workload : Workload) (mappers : List (Option (List FailingCall))) (fir
     }
 
     pub threads_run_end : HaveWatchers workload ends.end.courses segs tables (listeners_in watchers)
-        → HaveStatistics ends.end.courses heaps → IsRunEnd workload mappers answers heaps segs tables (listeners_in watchers)
+        → HaveStatistics ends.end.courses heaps → IsRunEnd workload mappers answers heaps segs tables (listeners_in watchers) names
     threads_run_end watched statistics = record {
       end = ends.end;
-      handed_names = ends.handed_names;
+      names_end = ends.names_end;
       watched = watched;
       statistics = statistics;
       named = named;
@@ -100,5 +100,5 @@ left_is_end workload mappers answers heaps segs names tables watchers law runnab
     record {
       run = threads_run_end workload mappers left.firsts (λ who first there. (left.begun.each who first there).party) answers heaps segs names
           tables watchers handed.end handed.watched handed.statistics;
-      named = record { are = handed.end.named; agreed = handed.end.names_agree };
+      named = record { sockets = handed.end.sockets; sound = handed.end.names_sound; agreed = handed.end.names_agree };
     }

@@ -10,13 +10,12 @@ use Rattle.hp_base.specs.declared.plan_entry.PlanEntry.{PlanEntry}
 use Rattle.hp_base.specs.declared.plan_entry.PlanEntry.TheVariants.{Mapping}
 use Rattle.hp_script.specs.declared.answer.Answer.{Answer}
 use Rattle.hp_script.specs.declared.answer.Answer.TheVariants.{Refused}
-use Rattle.hp_script.specs.declared.line.Act.TheVariants.{Attach}
 use Rattle.hp_script.specs.declared.line.Line.{Line}
 use Rattle.hp_segs.specs.declared.ask.Ask.{Ask}
 use Rattle.hp_segs.specs.declared.outcome.AskLog.{AskLog}
 use Rattle.hp_serve.specs.Party.{Party}
 use Rattle.hp_solo.specs.Solo.{AloneView, party_at}
-use Rattle.thm_run.specs.EndLaws.{FailsFor, IsFailedMapping}
+use Rattle.thm_run.specs.EndLaws.{FailsFor, IsFailedMapping, MapsPages}
 
 -- the participant has a mapper, which is not steady; of each mapper the list has the calls at which it may fail, and how, where these are
 -- told
@@ -55,20 +54,20 @@ abbrev pub FailOnce : List AskLog → Type 0
 FailOnce asks = (place other : ℕ) (entry second : AskLog) (participant call : ℕ) → slice_get asks place ≡ Some entry
     → slice_get asks other ≡ Some second → IsFailedMapping participant call entry → IsFailedMapping participant call second → place ≡ other
 
--- the line at a place attaches its participant, and was refused at that mapping call
+-- the line at a place maps pages, as it attaches its participant or a chunk, and was refused at that mapping call
 pub record IsRefusedAt (lines : List Line) (answers : List Answer) (place participant call : ℕ) : Type 0 where
   pub line : Line
   pub its : slice_get lines place ≡ Some line
   pub who : line.participant ≡ participant
-  pub attaches : line.act ≡ Attach
+  pub maps : MapsPages line.act
   pub refused : slice_get answers place ≡ Some (Refused call)
 
--- each call at which a line that attaches was refused is named so
+-- each call at which a line that maps pages was refused is named so
 abbrev pub AreRefusalsNamed : List PlanEntry → List (Option (List FailingCall)) → List Line → List Answer → Type 0
 AreRefusalsNamed plan mappers lines answers = (place participant call : ℕ) → IsRefusedAt lines answers place participant call
     → IsFailureNamed plan mappers participant call
 
--- no two lines that attach were refused at the same call of a participant
+-- no two lines that map pages were refused at the same call of a participant
 abbrev pub RefuseOnce : List Line → List Answer → Type 0
 RefuseOnce lines answers = (place other participant call : ℕ) → IsRefusedAt lines answers place participant call
     → IsRefusedAt lines answers other participant call → place ≡ other
@@ -90,7 +89,7 @@ abbrev pub FailAsMay : List AloneView → List AskLog → Type 0
 FailAsMay servers asks = (entry : AskLog) (participant call : ℕ) → Contains asks entry → (failed : IsFailedMapping participant call entry)
     → MayFailSoIn servers participant call failed.addr failed.got entry.ask
 
--- each call at which a line that attaches was refused is one at which the mapper of its participant may fail
+-- each call at which a line that maps pages was refused is one at which the mapper of its participant may fail
 abbrev pub RefuseAsMay : List AloneView → List Line → List Answer → Type 0
 RefuseAsMay servers lines answers = (place participant call : ℕ) → IsRefusedAt lines answers place participant call
     → MayFailIn servers participant call

@@ -36,8 +36,8 @@ use std::alloc::{AllocError, Global};
 use thm_alike::{alike_law, restoring_law};
 use thm_causes::{catch_up_law, none_law, notices_law, timeouts_law};
 use thm_run::{
-    counted_law, drops_law, end_law, failure_law, handed_law, judged_law, line_law, refusal_law,
-    shown_law,
+    counted_law, drops_law, end_law, failure_law, handed_law, judged_law, line_law, names_end_law,
+    refusal_law, shown_law,
 };
 
 // What the lines of a workload leave.
@@ -314,6 +314,7 @@ fn run_in<'p, M: Mapper, F: Decide + Copy + Drop>(
     plain.sound();
     let HallParts { heaps, segs, names } = plain.into_parts();
     end_law();
+    names_end_law();
     handed_law();
     failure_law();
     refusal_law();

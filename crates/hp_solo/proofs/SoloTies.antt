@@ -3,7 +3,7 @@ use Rattle.std.proofs.Common.{◌≡◌, ◌≢◌, ℕ, ◌<◌, Bool, true, fa
 use Rattle.std.specs.List.{slice_get}
 use Rattle.std.specs.Option.{option_map}
 use Rattle.std.proofs.lemmas.Bool.{cases_eq}
-use Rattle.std.proofs.lemmas.Option.{same_Some, slice_get_within}
+use Rattle.std.proofs.lemmas.Option.{slice_get_within}
 use Rattle.hp_plain.proofs.Slotted.{slice_get-set_other, slice_get-set_same}
 use Rattle.hp_plain.specs.Course.{IsCourse, course_same, course_seen, course_then, done_same, done_then}
 use Rattle.hp_plain.specs.HallView.{HallView, HasDone, SlotView, IsHome, joined_in, own_at, part_in, seen_in, taken_from}
@@ -20,12 +20,11 @@ use Rattle.hp_solo.specs.Solo.{AreLater, AreTied, IsLaterAt, IsLaterParty, IsPar
 use Rattle.hp_solo.specs.SoloCourse.{same_then, server_stays}
 
 -- who is tied stays so along the course of the hall where its own part stays, its marks, and whether it is in the roster
-pub tied_on : (old new : HallView) (who : ℕ) (party : Party) → IsCourse old new → own_at new who ≡ own_at old who
-    → joined_in new who ≡ joined_in old who → ((heap : ℕ) → part_in new who heap ≡ part_in old who heap) → IsTiedAt old who party
+pub tied_marked : (old new : HallView) (who : ℕ) (party : Party) → IsCourse old new → own_at new who ≡ own_at old who
+    → joined_in new who ≡ joined_in old who → ((heap : ℕ) → marked_at new who heap ≡ marked_at old who heap) → IsTiedAt old who party
     → IsTiedAt new who party
-tied_on old new who party course own joined part at =
+tied_marked old new who party course own joined marks at =
     let seen = course_seen old new course in
-    let marks : (heap : ℕ) → marked_at new who heap ≡ marked_at old who heap = λ heap. ap (λ (p : HeapPart). p.marked) (part heap) in
     record {
       number = at.number;
       tied = record {
@@ -35,6 +34,13 @@ tied_on old new who party course own joined part at =
         left = λ out heap. marks heap ∙ at.tied.left out heap;
       };
     }
+
+-- as it does where its parts in heaps stay
+pub tied_on : (old new : HallView) (who : ℕ) (party : Party) → IsCourse old new → own_at new who ≡ own_at old who
+    → joined_in new who ≡ joined_in old who → ((heap : ℕ) → part_in new who heap ≡ part_in old who heap) → IsTiedAt old who party
+    → IsTiedAt new who party
+tied_on old new who party course own joined part at =
+    tied_marked old new who party course own joined (λ heap. ap (λ (p : HeapPart). p.marked) (part heap)) at
 
 -- what is there was not taken
 pub free_home : (slot : Option SlotView) → IsHome slot → taken_from slot ≡ None
@@ -142,17 +148,21 @@ served_apart old new number (Some party) None numbered served = absurd served
 served_apart old new number (Some party) (Some after) numbered served =
     serving_narrow (λ who. who ≢ party.me) (λ who. who ≢ number) old new (λ who apart same. apart (same ∙ numbered party refl)) served.serving
 
+tied_here : (old new : HallView) (number : ℕ) (party now : Party) → party.me ≡ number → IsPartyServed old new party now → IsTiedAt new number now
+tied_here old new number party now me served = record {
+  number = served.same.me ∙ me;
+  tied = subst (λ (who : ℕ). IsTiedFor new who now) me served.tied;
+}
+
+tied_now : (old new : HallView) (number : ℕ) (now : Party) (party : Option Party) → ((there : Party) → party ≡ Some there → there.me ≡ number)
+    → IsServedAs old new party (Some now) → IsTiedAt new number now
+tied_now old new number now None numbered served = absurd served
+tied_now old new number now (Some party) numbered served = tied_here old new number party now (numbered party refl) served
+
 served_tied : (old new : HallView) (number : ℕ) (party after : Option Party) (now : Party)
     → ((there : Party) → party ≡ Some there → there.me ≡ number) → IsServedAs old new party after → after ≡ Some now → IsTiedAt new number now
-served_tied old new number None None now numbered served is = cc
-served_tied old new number None (Some after) now numbered served is = absurd served
-served_tied old new number (Some party) None now numbered served is = absurd served
-served_tied old new number (Some party) (Some after) now numbered served is =
-    let me = numbered party refl in
-    subst (IsTiedAt new number) (same_Some after now is) (record {
-      number = served.same.me ∙ me;
-      tied = subst (λ (who : ℕ). IsTiedFor new who after) me served.tied;
-    })
+served_tied old new number party after now numbered served is =
+    tied_now old new number now party numbered (subst (λ (o : Option Party). IsServedAs old new party o) is served)
 
 pub served_later : (old new : HallView) (party after : Option Party) → IsServedAs old new party after → IsLaterParty party after
 served_later old new None None served = tt

@@ -6,7 +6,7 @@ use Rattle.std.proofs.lemmas.Bool.{cond-true}
 use Rattle.std.proofs.lemmas.Option.{none-some}
 use Rattle.hp_board.specs.Knowing.{heap_part}
 use Rattle.hp_board.specs.SeatView.{SeatView}
-use Rattle.hp_board.specs.Views.{own_of, value_of}
+use Rattle.hp_board.specs.Views.{marked_in, own_of, value_of}
 use Rattle.hp_chair.specs.ChairCourse.{IsChairCourse}
 use Rattle.hp_chair.specs.ChairLaws.{as_many}
 use Rattle.hp_chair.specs.ChairView.{ChairView, chair_part, chair_state, no_part}
@@ -108,10 +108,20 @@ module _ (old new : ChairView) (course : IsChairCourse old new) (me : ℕ) (last
           works = subst (Works workload.participants first last done.courses) (did_is new me whose) done.worked.works;
           done = lines_there;
           attached = sym (joined_is new me whose) ∙ ready.attached;
-          tied = subst (λ (own : Own). IsTiedAs new.seat.mine.log own new.seat.mine.joined last.party.joined last.party.maps)
+          tied = subst
+              (λ (own : Own).
+              IsTiedAs new.seat.mine.log own (λ (heap : ℕ). marked_in heap new.seat.mine) new.seat.mine.joined last.party.joined last.party.maps)
               (own_is new me whose)
-              (subst (λ (member : Bool). IsTiedAs new.seat.mine.log ((chair_state new).own me) member last.party.joined last.party.maps)
-              (joined_is new me whose) ready.idle.tied);
+              (subst
+              (λ (part : ℕ → HeapPart).
+              IsTiedAs new.seat.mine.log ((chair_state new).own me) (λ (heap : ℕ). (part heap).marked) new.seat.mine.joined last.party.joined
+              last.party.maps)
+              (part_is new me whose)
+              (subst
+              (λ (member : Bool).
+              IsTiedAs new.seat.mine.log ((chair_state new).own me) (λ (heap : ℕ). ((chair_state new).part me heap).marked) member
+              last.party.joined last.party.maps)
+              (joined_is new me whose) ready.idle.tied));
           leaves = leaves;
           watched = watched;
         })

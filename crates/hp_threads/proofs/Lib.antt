@@ -9,9 +9,9 @@ mod OwnLines
 mod Promises
 mod Stages
 mod Weaves
-mod WorkSteps
+pub mod WorkSteps
 mod Ends
 mod Seating
-mod ServesUntold
-mod WaitsUntold
+pub mod ServesUntold
+pub mod WaitsUntold
 mod Handing

@@ -1,9 +1,10 @@
 -- A participant that sits at a new board has done nothing in the hall that it opens, and may do its first line.
-use Rattle.std.proofs.Common.{◌≡◌, ◌∙◌, ℕ, ◌<◌, ◌≤◌, Bool, true, false, eqb, eq-eqb, List, [], length, Option, Some, None, refl, sym, ap, subst, arith}
+use Rattle.std.proofs.Common.{◌≡◌, ◌∙◌, ℕ, ◌<◌, ◌≤◌, Bool, true, false, eqb, eq-eqb, List, [], length, map, Option, Some, None, refl, sym, ap, subst, arith}
 use Rattle.std.specs.Prelude.{slice_get, unwrap_or}
 use Rattle.std.specs.Option.{option_map}
 use Rattle.std.proofs.lemmas.Bool.{cond-true}
 use Rattle.std.proofs.lemmas.List.Elements.{All-nil}
+use Rattle.hp_base.specs.declared.chunk.Chunk.{Chunk}
 use Rattle.hp_base.specs.declared.limits.TheConstants.{MAX_PARTICIPANTS, MAX_SEGMENTS}
 use Rattle.atomic_table.specs.Seated.{TableId}
 use Rattle.hp_board.specs.BoardView.{BoardView}
@@ -27,12 +28,16 @@ use Rattle.hp_segs.specs.SegsView.{SegsView, is_member}
 use Rattle.hp_segs.specs.declared.ask.Ask.{Ask}
 use Rattle.hp_stats.specs.StatViews as stats
 use Rattle.hp_zone.specs.declared.names.Names.{Names as NamesView}
+use Rattle.hp_serve.specs.InHall.{marked_in}
 use Rattle.hp_serve.specs.Party.{Party}
-use Rattle.hp_serve.specs.Tied.{IsTied, part_of}
+use Rattle.hp_serve.specs.Tied.{HasChunks, IsTied, no_chunks, part_of}
+use Rattle.hp_serve.proofs.Attached.{nothing_marked}
+use Rattle.hp_serve.proofs.Tying.{tied_marks}
 use Rattle.hp_proc.specs.Contexts.{Context}
 use Rattle.hp_proc.specs.Heaps.{sockets_of}
 use Rattle.hp_proc.specs.LineInHall.{IsReadyIn, moment}
 use Rattle.hp_proc.specs.LinesDone.{Course}
+use Rattle.hp_proc.specs.OwnChunks.{chunks_of, own_chunk}
 use Rattle.hp_proc.specs.ParticipantView.{ParticipantView}
 use Rattle.hp_proc.specs.Progress.{MayDo}
 use Rattle.hp_proc.proofs.Joining.{asked_none}
@@ -49,22 +54,23 @@ part_first : (joined : Bool) → part_of joined (after_ack 0) ≡ after_ack 0
 part_first true = refl
 part_first false = refl
 
--- an empty table is tied where nothing was seen and nothing taken in
-tied_first : (own : Own) (joined : Bool) (maps : MapsView) → own ≡ after_ack 0 → maps.rows ≡ [] → maps.number ≡ 0
-    → MAX_SEGMENTS ≤ maps.capacity → IsTied [] own joined maps
-tied_first own joined maps nothing empty first room =
+-- an empty table is tied where nothing was seen, nothing taken in, and no chunk marked
+tied_first : (own : Own) (marked : ℕ → List Chunk) (joined : Bool) (maps : MapsView) → own ≡ after_ack 0 → ((heap : ℕ) → marked heap ≡ [])
+    → maps.rows ≡ [] → maps.number ≡ 0 → MAX_SEGMENTS ≤ maps.capacity → IsTied [] own marked joined maps
+tied_first own marked joined maps nothing unmarked empty first room =
     let part : part_of joined own ≡ after_ack 0 = ap (part_of joined) nothing ∙ part_first joined in
-    record {
+    tied_marks [] own no_chunks marked joined maps unmarked
+    (record {
       within = omega (arith, ap (λ (own : Own). own.number) nothing);
       table = record {
         number = first ∙ sym (ap (λ (own : Own). own.number) part);
         rows = subst (λ (own : Own). table_in maps.rows ≡ rows_known [] own) (sym part) (ap table_in empty);
         behind = omega (arith, ap (λ (own : Own). own.number) part, ap (λ (own : Own). own.unmapped) part);
         seen = omega (arith, ap (λ (own : Own). own.unmapped) part);
-        chunks = ap chunk_rows empty;
+        chunks = subst (HasChunks no_chunks) (sym (ap chunk_rows empty)) nothing_marked;
         room = room;
       };
-    }
+    })
 
 module _ (workload : Workload) (who : ℕ) (board : BoardView) (boxes : List MailboxView) (cells : List TableId) (seat : SeatView)
     (passes : List PassView) (pass : stats.PassView) (is : IsSeated who board boxes cells seat passes pass)
@@ -135,6 +141,9 @@ module _ (workload : Workload) (who : ℕ) (board : BoardView) (boxes : List Mai
   unheld : (heap : ℕ) → (state.part who heap).holding ≡ None
   unheld heap = ap (λ (p : ℕ → HeapPart). (p heap).holding) parts
 
+  unmarked : (heap : ℕ) → marked_in who state heap ≡ []
+  unmarked heap = ap (λ (p : ℕ → HeapPart). (p heap).marked) parts
+
   unarmed : (heap : ℕ) → (state.part who heap).armed ≡ None
   unarmed heap = ap (λ (p : ℕ → HeapPart). (p heap).armed) parts
 
@@ -179,17 +188,21 @@ module _ (workload : Workload) (who : ℕ) (board : BoardView) (boxes : List Mai
         home = λ number low. omega (arith, low);
         tied = record {
           table =
-              tied_first (state.own who) doer.party.joined doer.party.maps own
+              tied_first (state.own who) (marked_in who state) doer.party.joined doer.party.maps own unmarked
               (ap (λ (maps : MapsView). maps.rows) its_maps ∙ brings.party.rows)
               (ap (λ (maps : MapsView). maps.number) its_maps ∙ brings.party.number)
               (omega (arith, ap (λ (maps : MapsView). maps.capacity) its_maps, brings.party.room));
           same = joined ∙ enrolled ∙ sym its_joined;
+          left = λ out. unmarked;
         };
       };
       ready = may_do;
       attached = joined ∙ enrolled ∙ attached;
       named = ap (λ (names : NamesView). names.heaps.sockets) opens.names
           ∙ sym (ap (λ (context : Context). sockets_of context.pools) brings.context);
+      chunks = λ heap.
+          ap (map (own_chunk heap)) (unmarked heap)
+          ∙ sym (ap (λ (context : Context). chunks_of heap context.standing.chunks) brings.context);
     }
 
     done : HasDoneLines workload [] who doer (state.part who) (state.seen who) (state.heard who)

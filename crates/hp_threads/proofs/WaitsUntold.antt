@@ -5,8 +5,10 @@ use Rattle.hp_base.specs.declared.caught.Caught.{Caught}
 use Rattle.hp_base.specs.declared.caught.Caught.TheVariants as caught
 use Rattle.hp_base.specs.declared.row.Run.{Run}
 use Rattle.hp_hall.specs.HallState.{HallState}
-use Rattle.hp_hall.specs.Mail.{MailStep, Notes}
+use Rattle.hp_hall.specs.Mail.{MailStep, Gives, Notes}
+use Rattle.hp_hall.specs.declared.kept.Kept.TheVariants.{Names}
 use Rattle.hp_hall.specs.declared.note.Note.TheVariants.{Read, Yielded}
+use Rattle.hp_hall.specs.declared.slot.TheConstants.{NAMES_SLOT}
 use Rattle.hp_script.specs.declared.answer.Answer.{Answer}
 use Rattle.hp_script.specs.declared.line.Line.{Line}
 use Rattle.hp_serve.specs.AskSteps.{DoesAsk, DoesNotify, IsAwaitedBy, IsSettledLate}
@@ -116,7 +118,7 @@ pub acts_untold : {count : ℕ} {hand fin : Option ℕ} {held : List ℕ} {doer 
 acts_untold (Acts.nothing hand doer) = tt
 acts_untold {count} (Acts.waits_turn until doer after moved steps turned) =
     turn_untold (denials_of doer.context.standing) count until doer.party after steps moved turned
-acts_untold (Acts.takes_heap doer heap pen) = (tt, tt)
+acts_untold (Acts.takes_heap doer heap pen few) = (tt, tt)
 acts_untold (Acts.gives_heap doer heap pen) = (tt, (tt, tt))
 acts_untold (Acts.makes_call doer heap call answer uncut) = tt
 acts_untold (Acts.cuts_run doer heap addr run taken) = (tt, (tt, tt))
@@ -128,10 +130,21 @@ acts_untold (Acts.attaches doer after taken caught tried) =
     let acks : List MailStep = acks_after caught (length taken.log) in
     let gives : List MailStep = gives_segments (after_attaching doer.party.me caught taken) ∷ [] in
     (tt, untold_both acks gives (acks_untold caught (length taken.log)) (tt, tt))
-acts_untold (Acts.detaches doer taken told above heard) = (tt, (tt, (tt, tt)))
+acts_untold (Acts.detaches doer taken told above left none heard) = (tt, (tt, (tt, tt)))
 acts_untold (Acts.notes_left doer elements) = tt
-acts_untold (Acts.looks_up_lines doer other lines) = (tt, tt)
 acts_untold (Acts.reads_names doer names) = (tt, (tt, tt))
+acts_untold (Acts.changes_names hand doer change) = tt
+acts_untold (Acts.holds_names held doer after taken given trace steps inner changes) =
+    (tt, untold_both steps (Gives NAMES_SLOT (Names given) ∷ []) (acts_untold inner) (tt, tt))
+acts_untold (Acts.sees_heap doer heap pen few) = (tt, tt)
+acts_untold (Acts.looks_at_segs doer heap taken) = (tt, (tt, tt))
+acts_untold (Acts.plans_range doer heap addr len page taken) = (tt, (tt, tt))
+acts_untold (Acts.claims doer heap chunk taken plan) = (tt, (tt, tt))
+acts_untold (Acts.releases doer heap chunk taken) = (tt, (tt, tt))
+acts_untold (Acts.maps_chunk doer heap chunk after ended maps) = tt
+acts_untold (Acts.shares doer heap chunk here) = tt
+acts_untold (Acts.leaves doer heap chunk after leaves) = tt
+acts_untold (Acts.looks_up_lines doer other lines) = (tt, tt)
 acts_untold (Acts.reads_stats doer heap pair) = (tt, tt)
 acts_untold (Acts.and_then hand between fin held more doer mid after first rest before late one two) =
     untold_both before late (acts_untold one) (acts_untold two)

@@ -4,6 +4,7 @@ use Rattle.std.specs.Prelude.{Result, Ok, Err, OnOk}
 use Rattle.std.specs.Result.{result_ok}
 use Rattle.std.proofs.lemmas.List.{append_cancel_left, length_push}
 use Rattle.std.proofs.lemmas.List.Elements.{All-push}
+use Rattle.hp_base.specs.declared.chunk.Chunk.{Chunk}
 use Rattle.hp_hall.specs.HallCalls.{HasStored, MayStore}
 use Rattle.hp_hall.specs.declared.slot.TheConstants.{NAMES_SLOT}
 use Rattle.hp_hall.specs.HallState.{Did, HallState, IsLater, SlotsStay}
@@ -16,6 +17,7 @@ use Rattle.hp_script.specs.declared.workload.Workload.{Workload}
 use Rattle.hp_serve.specs.Coordinating.{IsServed}
 use Rattle.hp_serve.specs.InHall.{StaysIn}
 use Rattle.hp_serve.specs.Party.{IsSameParty, Party}
+use Rattle.hp_serve.specs.SegmentSlot.{MarksStay}
 use Rattle.hp_serve.proofs.Carrying.{same_party, same_then}
 use Rattle.hp_serve.proofs.InHalls.{tied_later}
 use Rattle.hp_proc.specs.Acting.{Acts, AreAsked}
@@ -25,6 +27,7 @@ use Rattle.hp_proc.specs.Courses.{Standing, calls_in}
 use Rattle.hp_proc.specs.Histories.{entries_for}
 use Rattle.hp_proc.specs.LineInHall.{DoesLineHere, IsReadyAgain, IsReadyIn}
 use Rattle.hp_proc.specs.LinesDone.{AreDone, Course, courses_of, opening_standing}
+use Rattle.hp_proc.specs.OwnChunks.{AreMarkedAs}
 use Rattle.hp_proc.specs.ParticipantView.{ParticipantView, with_party}
 use Rattle.hp_proc.proofs.HandFacts.HandGiven.{ready_still}
 use Rattle.hp_proc.proofs.HandFacts.Holds.{again_by, again_line}
@@ -103,13 +106,17 @@ serving_more workload me courses first old new {from} {to} steps moved here did 
 pub ready_later : (me : ℕ) (doer : ParticipantView) {a b : HallState} → SlotsStay a b → IsLater a b
     → ((heap : ℕ) → b.part me heap ≡ a.part me heap) → b.joined me ≡ a.joined me → b.own me ≡ a.own me → IsReadyIn me doer a
     → IsReadyIn me doer b
-ready_later me doer {a} {b} slots later parts joined own ready = record {
-  idle = idle_still slots later (tied_later me doer.party later joined own ready.idle.tied) ready.idle;
-  ready = ready_still doer doer (a.part me) (b.part me) (a.seen me) (b.seen me) (a.heard me) (b.heard me) (later.heard me).0
-      (same_party doer.party) refl parts (later.heard me).1 ready.ready;
-  attached = joined ∙ ready.attached;
-  named = (later.named me).sockets ∙ ready.named;
-}
+ready_later me doer {a} {b} slots later parts joined own ready =
+    let marks : MarksStay me a b = λ heap. ap (λ (part : HeapPart). part.marked) (parts heap) in
+    record {
+      idle = idle_still slots later (tied_later me doer.party later joined own marks ready.idle.tied) ready.idle;
+      ready = ready_still doer doer (a.part me) (b.part me) (a.seen me) (b.seen me) (a.heard me) (b.heard me) (later.heard me).0
+          (same_party doer.party) refl parts (later.heard me).1 ready.ready;
+      attached = joined ∙ ready.attached;
+      named = (later.named me).sockets ∙ ready.named;
+      chunks = λ heap.
+          subst (λ (marked : List Chunk). AreMarkedAs heap marked doer.context.standing.chunks) (sym (marks heap)) (ready.chunks heap);
+    }
 
 -- after it told of its lines it is ready still
 pub told_ready : (me lines : ℕ) (doer : ParticipantView) {mid to : HallState} → HasStored me lines mid to → IsReadyIn me doer mid
@@ -194,6 +201,8 @@ module _ (workload : Workload) (me : ℕ) (courses : List Course) (first old new
               ended = ap doer_at does.ended;
               left = does.left;
               added = line_added;
+              names = does.names;
+              awaited = does.awaited;
             }));
         done = done_still workload more me new new is.others.later is.part (same_party new.party) refl refl line_done;
         ready = told_ready me lines new is again.ready;

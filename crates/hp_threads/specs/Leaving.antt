@@ -2,7 +2,7 @@
 use Rattle.std.specs.Prelude.{◌≡◌, List, [], map, Option, Some, None, ⊤}
 use Rattle.hp_board.specs.Knowing.{heap_part}
 use Rattle.hp_board.specs.SeatView.{SeatView}
-use Rattle.hp_board.specs.Views.{own_of}
+use Rattle.hp_board.specs.Views.{marked_in, own_of}
 use Rattle.hp_chair.specs.DoneBy.{IsDoneBy}
 use Rattle.hp_chair.specs.Places.{HasPasses}
 use Rattle.hp_chair.specs.Publishing.{HasReadBy}
@@ -38,7 +38,7 @@ pub record LeavesWatchers (last : ParticipantView) (watchers : WatchersView) : T
   pub named : names_of last.party.listeners ≡ last.context.standing.watchers
 
 -- all its lines were done, by these steps, and answered so; by its view the heaps have its calls and its asks their answers, its table is
--- that of its number, and its watchers are those of its lines
+-- that of its number, with the chunks that have its mark, and its watchers are those of its lines
 pub record HasDoneAll (workload : Workload) (first : ParticipantView) (seat : SeatView) (steps : List MailStep) (answers : List Answer)
     (table : Table) (watchers : WatchersView) : Type 0 where
   pub courses : List Course
@@ -48,7 +48,7 @@ pub record HasDoneAll (workload : Workload) (first : ParticipantView) (seat : Se
   pub works : Works workload.participants first last courses steps
   pub done : HasDoneLines workload courses seat.mine.who last (heap_part seat.mine) seat.mine.log seat.mine.heard
   pub attached : seat.mine.joined ≡ last.context.standing.attached
-  pub tied : IsTiedAs seat.mine.log (own_of seat.mine) seat.mine.joined last.party.joined last.party.maps
+  pub tied : IsTiedAs seat.mine.log (own_of seat.mine) (λ heap. marked_in heap seat.mine) seat.mine.joined last.party.joined last.party.maps
   pub leaves : LeavesTable last.party table
   pub watched : LeavesWatchers last watchers
 

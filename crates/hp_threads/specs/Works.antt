@@ -3,10 +3,12 @@ use Rattle.std.specs.Prelude.{◌≡◌, ℕ, ◌+◌, Bool, List, [], ◌∷◌
 use Rattle.hp_hall.specs.Mail.{MailStep, Notes}
 use Rattle.hp_hall.specs.declared.note.Note.TheVariants.{Stored}
 use Rattle.hp_proc.specs.Acting.{Acts}
+use Rattle.hp_proc.specs.Awaiting.{HasAwaited}
 use Rattle.hp_proc.specs.Courses.{after_line, calls_in}
 use Rattle.hp_proc.specs.Denying.{denials_of}
 use Rattle.hp_proc.specs.Histories.{entries_for}
 use Rattle.hp_proc.specs.LinesDone.{Course}
+use Rattle.hp_proc.specs.NamesOfLines.{NamesOfLine}
 use Rattle.hp_proc.specs.ParticipantView.{ParticipantView, after_registering, with_party}
 use Rattle.hp_proc.specs.Progress.{AreOnce}
 use Rattle.hp_serve.specs.Coordinating.{IsServed}
@@ -14,7 +16,8 @@ use Rattle.hp_serve.specs.Party.{Party}
 use Rattle.hp_threads.specs.Adding.{added_by}
 
 -- by these steps it did what a line's trace says, with heaps in its hand one after another, none of them twice, and then the line ended, of
--- which it knows what that left; and what they added to each heap are the line's calls of that, numbered on after those before
+-- which it knows what that left; what they added to each heap are the line's calls of that, numbered on after those before; what it read and
+-- changed of the names is what it took and gave back of them; and where it awaited another one it found that one's lines done last
 pub record DoesCourse (count : ℕ) (doer after : ParticipantView) (course : Course) (steps : List MailStep) : Type 0 where
   pub held : List ℕ
   pub once : AreOnce held
@@ -23,6 +26,8 @@ pub record DoesCourse (count : ℕ) (doer after : ParticipantView) (course : Cou
   pub ended : after ≡ after_registering course.line.act course.answer mid
   pub left : after.context.standing ≡ after_line course.line course.answer course.trace doer.context.standing
   pub added : (heap : ℕ) → added_by heap steps ≡ entries_for doer.party.me heap (doer.context.calls + 1) (calls_in course.trace)
+  pub names : NamesOfLine course.trace steps
+  pub awaited : HasAwaited course.line.act steps
 
 -- after its line it tells how many of its lines are done
 abbrev pub tells : ℕ → List MailStep

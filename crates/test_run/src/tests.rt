@@ -107,7 +107,7 @@ const BAD_LINES: &[Case<'static>] = &[
 ];
 
 #[test]
-fn refuses_the_first_bad_line_or_the_first_that_is_not_built(rt: HostRuntime) -> Result<(), Fail> {
+fn refuses_the_first_bad_line(rt: HostRuntime) -> Result<(), Fail> {
     play(&rt, rt.alloc(), BAD_LINES)
 }
 

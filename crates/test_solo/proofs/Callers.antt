@@ -16,7 +16,7 @@ use Rattle.hp_serve.proofs.MemberLemmas.{at_each}
 use Rattle.hp_serve.specs.InHall.{CanServe, IsTiedIn, RemainsIn, StaysAlone}
 use Rattle.hp_serve.specs.Party.{Party}
 use Rattle.hp_serve.specs.SegmentSlot.{MarksStay, MayHold, StaysButParts}
-use Rattle.hp_solo.specs.Solo.{IsPartyServed, IsTiedAt, MayWait, SoloView}
+use Rattle.hp_solo.specs.Solo.{IsPartyServed, IsTiedAt, MayWait, SoloView, marked_at}
 use Rattle.hp_solo.specs.SoloAsks.{MayBeginToAsk}
 use Rattle.hp_solo.specs.SoloState.{solo_state}
 use Rattle.hp_solo.proofs.SoloTies.{free_home}
@@ -162,3 +162,11 @@ stage_owns old new {who} stays = at_each (λ n. own_at new n ≡ own_at old n) w
 pub stage_joins : (old new : HallView) {who : ℕ} → Stays who (plain_state old) (plain_state new) → (other : ℕ)
     → joined_in new other ≡ joined_in old other
 stage_joins old new {who} stays = at_each (λ n. joined_in new n ≡ joined_in old n) who stays.mine.parts.joined stays.others.joined
+
+-- and every mark
+pub stage_marks : (old new : HallView) {who : ℕ} → Stays who (plain_state old) (plain_state new) → (other heap : ℕ)
+    → marked_at new other heap ≡ marked_at old other heap
+stage_marks old new {who} stays =
+    at_each (λ n. (heap : ℕ) → marked_at new n heap ≡ marked_at old n heap) who
+    (λ heap. ap (λ (p : HeapPart). p.marked) (stays.mine.parts.part heap))
+    (λ n apart heap. ap (λ (p : HeapPart). p.marked) (stays.others.part n heap apart))

@@ -1,5 +1,5 @@
 -- A hall of two in one thread as tests open it, and one that comes to ask for pages for heap 0 there, and to give them up.
-use Rattle.std.proofs.Common.{◌≡◌, ◌≢◌, ◌∙◌, ◌==◌, ◌&&◌, ℕ, ◌<◌, Bool, true, false, List, [], ◌∷◌, length, replicate, Option, Some, None, refl, sym, ap, subst, ⊎_elim, arith, IfSome, IsSome}
+use Rattle.std.proofs.Common.{◌≡◌, ◌≢◌, ◌∙◌, ◌==◌, ◌&&◌, ℕ, zero, suc, ◌<◌, Bool, true, false, List, [], ◌∷◌, length, replicate, Option, Some, None, refl, sym, ap, subst, ⊎_elim, arith, IfSome, IsSome}
 use Rattle.std.specs.Prelude.{MatchOption}
 use Rattle.std.specs.List.{slice_get}
 use Rattle.std.specs.Option.{option_and_then}
@@ -25,12 +25,13 @@ use Rattle.hp_segs.specs.SegsView.{SegsView, is_member}
 use Rattle.hp_segs.specs.declared.ask.Ask.{Ask}
 use Rattle.hp_segs.specs.declared.outcome.AskLog.{AskLog}
 use Rattle.hp_plain.specs.HallSteps.{slots_of}
-use Rattle.hp_plain.specs.HallView.{HallView, is_joined, joined_in, own_at, part_in, serves_in}
+use Rattle.hp_plain.specs.HallView.{HallView, is_joined, joined_in, marks_in, own_at, part_in, serves_in}
 use Rattle.hp_hall.specs.HallCalls.{HasTaken}
 use Rattle.hp_hall.specs.HallState.{HallState}
 use Rattle.hp_hall.specs.Holding.{HasPages, HeapPart, IsAsPart, IsHeldWith, IsPartTaken, IsTakenAs, StandsFor}
 use Rattle.hp_segs.specs.Standing.{Holding}
 use Rattle.hp_plain.specs.Opening.{AreHome, OpensWith, heaps_in}
+use Rattle.hp_hall.specs.Naming.{marked_by}
 use Rattle.hp_hall.specs.Own.{after_ack}
 use Rattle.hp_hall.specs.Values.{Fits, IsHeap, IsSoundKept}
 use Rattle.hp_hall.specs.Views.{HeldHeap}
@@ -44,6 +45,7 @@ use Rattle.hp_serve.specs.Party.{Party}
 use Rattle.hp_serve.specs.Tied.{nothing_yet}
 use Rattle.hp_proc.proofs.Unarmed.{all_alike, unarmed_new}
 use Rattle.hp_serve.specs.InHall.{CanServe}
+use Rattle.hp_solo.specs.Solo.{marked_at}
 use Rattle.hp_solo.specs.SoloAsks.{IsInHand, IsOpening, MayBeginToAsk, MayGiveUp}
 use Rattle.test_solo.specs.Asking.{MayAsk}
 
@@ -57,6 +59,23 @@ first_serves (one ∷ held) segs names some serves = serves one.heap refl
 pub serves_first : (heap : HeapView) → heap.plain ≡ opening_heap 0 (Some 0) → IsSome heap.plain.serves
 serves_first heap is = subst (λ (plain : PlainHeap). IsSome plain.serves) (sym is) refl
 
+-- a heap that opens has no chunk
+opening_unmarked : (who : ℕ) (heap : HeapView) (index : ℕ) (serves : Option ℕ) → heap.plain ≡ opening_heap index serves
+    → marked_by who heap.plain ≡ []
+unfolding marked_by
+opening_unmarked who heap index serves is = ap (marked_by who) is
+
+-- nor is one marked in a hall that opens with such
+opened_unmarked : (segs : SegsView) (names : NamesView) (who : ℕ) (heaps : List HeldHeap) (number : ℕ)
+    → ((place : ℕ) (heap : HeapView) → slice_get (heaps_in heaps) place ≡ Some heap → marked_by who heap.plain ≡ [])
+    → marks_in who (slice_get (slots_of heaps segs names) number) ≡ []
+opened_unmarked segs names who [] zero none = refl
+opened_unmarked segs names who [] (suc zero) none = refl
+opened_unmarked segs names who [] (suc (suc number)) none = refl
+opened_unmarked segs names who (heap ∷ heaps) zero none = none 0 heap.heap refl
+opened_unmarked segs names who (heap ∷ heaps) (suc number) none =
+    opened_unmarked segs names who heaps number (λ place one at. none (suc place) one at)
+
 -- of two of whom nobody is absent both are in the roster at first
 present_two : (who : ℕ) → who < 2 → is_member (opening_roster 2 0) who ≡ true
 present_two who below =
@@ -66,7 +85,8 @@ present_two who below =
 -- a hall opens over a segment value of which nobody is armed and both are in the roster, and heaps, the first of which is a socket's
 pub opens : (heaps : List HeapView) (segs : SegsView) (names : NamesView) (hall : HallView) → OpensWith 2 heaps segs names hall
     → length heaps ≡ MAX_HEAPS → segs.armed ≡ replicate 16 None → segs.roster ≡ opening_roster 2 0
-    → ((heap : HeapView) → slice_get heaps 0 ≡ Some heap → IsSome heap.plain.serves) → IsOpening hall
+    → ((heap : HeapView) → slice_get heaps 0 ≡ Some heap → IsSome heap.plain.serves)
+    → IsOpening hall
 opens heaps segs names hall opened count armed roster serves =
     let many : length opened.held ≡ MAX_HEAPS =
     sym (length-map opened.held (λ (one : HeldHeap). one.heap)) ∙ (ap length opened.heaps_are ∙ count) in
@@ -87,6 +107,16 @@ opens heaps segs names hall opened count armed roster serves =
           (first_serves opened.held segs names (omega (arith, many)) (λ heap there.
           serves heap (ap (λ (l : List HeapView). slice_get l 0) (sym opened.heaps_are) ∙ there)));
     }
+
+-- and nobody has a mark there
+pub opens_unmarked : (heaps : List HeapView) (segs : SegsView) (names : NamesView) (hall : HallView) → OpensWith 2 heaps segs names hall
+    → ((place : ℕ) (heap : HeapView) → slice_get heaps place ≡ Some heap → (serves : Option ℕ) × (heap.plain ≡ opening_heap place serves))
+    → (who heap : ℕ) → marked_at hall who heap ≡ []
+opens_unmarked heaps segs names hall opened plain who heap =
+    ap (λ (h : HallView). marked_at h who heap) opened.hall_is
+    ∙ opened_unmarked segs names who opened.held heap (λ place one there.
+    let is = plain place one (ap (λ (l : List HeapView). slice_get l place) (sym opened.heaps_are) ∙ there) in
+    opening_unmarked who one place is.0 is.1)
 
 -- there each may begin to ask
 pub may_begin : (hall : HallView) (who : ℕ) → IsOpening hall → MayBeginToAsk hall who

@@ -9,6 +9,7 @@ ghost use Rattle.hp_log.specs.declared.log_record.LogRecord.{LogRecord};
 ghost use Rattle.hp_segs.specs.Opening.{opening};
 ghost use Rattle.hp_serve.specs.SegmentSlot.{MarksStay, MayHold};
 ghost use Rattle.hp_serve.specs.Tied.{IsTied, no_chunks, nothing_yet};
+ghost use Rattle.hp_solo.specs.Solo.{marked_at};
 ghost use Rattle.hp_solo.specs.SoloAsks.{IsOpening};
 ghost use Rattle.hp_zone.specs.Directory.{opened};
 ghost use Rattle.hp_zone.specs.Zones.{no_zones};
@@ -148,6 +149,7 @@ pub(crate) fn plan_of(alloc: Global, planned: Option<PlanEntry>) -> Result<Plan,
 // The plain values of a hall of the two, in which nobody has asked.
 pub(crate) fn plain_hall(alloc: Global) -> Result<PlainHall, AllocError>
     ensures opening { IfOk result IsOpening }
+    ensures unmarked { IfOk result (λ hall. (who heap : ℕ) → marked_at hall who heap ≡ []) }
 {
     let heaps = empty_heaps(alloc)?;
     let segs = opening_segs(alloc)?;

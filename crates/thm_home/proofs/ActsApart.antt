@@ -1,9 +1,11 @@
 -- What is done of a line without one heap: no step touches that, and no call is of it.
-use Rattle.std.proofs.Common.{◌≡◌, ◌≢◌, ◌∙◌, ℕ, ◌+◌, cond, eq-eqb, ne_eqb, List, [], ◌∷◌, ◌++◌, length, Option, Some, None, ⊎_elim, refl, ap, sym, subst, arith}
-use Rattle.std.specs.Prelude.{⊤, ◌==◌, count_by}
-use Rattle.std.proofs.lemmas.Bool.{cases_eq, cond-false, cond-true}
+use Rattle.std.proofs.Common.{◌≡◌, ◌≢◌, ◌∙◌, ℕ, ◌+◌, cond, eq-eqb, ne_eqb, List, [], ◌∷◌, ◌++◌, length, Option, Some, None, refl, ap, sym, arith}
+use Rattle.std.specs.Prelude.{◌==◌, count_by}
+use Rattle.std.proofs.lemmas.Bool.{cond-false, cond-true}
 use Rattle.std.proofs.lemmas.Option.{same_Some}
-use Rattle.hp_hall.specs.Mail.{MailStep}
+use Rattle.hp_hall.specs.Mail.{Gives, MailStep}
+use Rattle.hp_hall.specs.declared.kept.Kept.TheVariants.{Names}
+use Rattle.hp_hall.specs.declared.slot.TheConstants.{NAMES_SLOT}
 use Rattle.hp_heap.proofs.HistoryFacts.Counting.{count_by-append, count_by-cons}
 use Rattle.hp_heap.specs.declared.entry.Entry.{Entry}
 use Rattle.hp_proc.proofs.Joining.{calls_on}
@@ -44,7 +46,16 @@ acts_apart {count} (Acts.waits_turn until doer after moved steps turned) index a
   beside = none_beside index steps (turn_none (denials_of doer.context.standing) count until doer.party after steps moved turned);
   calls = λ who number. refl;
 }
-acts_apart (Acts.takes_heap doer heap pen) index apart none =
+acts_apart (Acts.takes_heap doer heap pen few) index apart none =
+    let differ : heap.plain.index ≢ index =
+    λ same.
+    let one : cond {A = ℕ} (heap.plain.index == index) 1 0 ≡ 1 = cond-true (heap.plain.index == index) 1 0 (eq-eqb heap.plain.index index same) in
+    let all : count_by (λ (other : ℕ). other == index) (heap.plain.index ∷ [])
+    ≡ cond {A = ℕ} (heap.plain.index == index) 1 0 + count_by (λ (other : ℕ). other == index) [] =
+    count_by-cons (λ (other : ℕ). other == index) heap.plain.index [] in
+    omega (arith, one, all, none) in
+    record { last = λ same. differ (same_Some heap.plain.index index same); beside = (differ, tt); calls = λ who number. refl }
+acts_apart (Acts.sees_heap doer heap pen few) index apart none =
     let differ : heap.plain.index ≢ index =
     λ same.
     let one : cond {A = ℕ} (heap.plain.index == index) 1 0 ≡ 1 = cond-true (heap.plain.index == index) 1 0 (eq-eqb heap.plain.index index same) in
@@ -83,10 +94,44 @@ acts_apart (Acts.attaches doer after segs caught tried) index apart none =
       beside = none_beside index (takes_segments segs ∷ (acks ++ gives)) (tt, none_both acks gives (acks_none caught (length segs.log)) (tt, tt));
       calls = λ who number. refl;
     }
-acts_apart (Acts.detaches doer segs told above heard) index apart none =
+acts_apart (Acts.detaches doer segs told above left bare heard) index apart none =
     record { last = apart; beside = (tt, (tt, (tt, tt))); calls = λ who number. refl }
 acts_apart (Acts.notes_left doer elements) index apart none = record { last = apart; beside = tt; calls = λ who number. refl }
 acts_apart (Acts.reads_names doer names) index apart none = record { last = apart; beside = (tt, (tt, tt)); calls = λ who number. refl }
+acts_apart (Acts.holds_names held doer after names given trace steps does changes) index apart none =
+    let inner = acts_apart does index apart none in
+    record {
+      last = inner.last;
+      beside = (tt, beside_both index steps (Gives NAMES_SLOT (Names given) ∷ []) inner.beside (tt, tt));
+      calls = inner.calls;
+    }
+acts_apart (Acts.changes_names hand doer change) index apart none = record { last = apart; beside = tt; calls = λ who number. refl }
+acts_apart (Acts.looks_at_segs doer its segs) index apart none =
+    record { last = apart; beside = (tt, (tt, tt)); calls = λ who number. refl }
+acts_apart (Acts.plans_range doer its addr len page segs) index apart none =
+    record { last = apart; beside = (tt, (tt, tt)); calls = λ who number. refl }
+acts_apart (Acts.claims doer its chunk segs planned) index apart none = record {
+  last = apart;
+  beside = (tt, (tt, tt));
+  calls = λ who number. no_call who index number _ (λ same. apart (ap Some same));
+}
+acts_apart (Acts.releases doer its chunk segs) index apart none = record {
+  last = apart;
+  beside = (tt, (tt, tt));
+  calls = λ who number. no_call who index number _ (λ same. apart (ap Some same));
+}
+acts_apart (Acts.maps_chunk doer its chunk maps ended is) index apart none =
+    record { last = apart; beside = tt; calls = λ who number. refl }
+acts_apart (Acts.shares doer its chunk is) index apart none = record {
+  last = apart;
+  beside = tt;
+  calls = λ who number. no_call who index number _ (λ same. apart (ap Some same));
+}
+acts_apart (Acts.leaves doer its chunk maps is) index apart none = record {
+  last = apart;
+  beside = tt;
+  calls = λ who number. no_call who index number _ (λ same. apart (ap Some same));
+}
 acts_apart (Acts.looks_up_lines doer other lines) index apart none = record { last = apart; beside = (tt, tt); calls = λ who number. refl }
 acts_apart (Acts.reads_stats doer its pair) index apart none = record { last = apart; beside = (tt, tt); calls = λ who number. refl }
 acts_apart (Acts.and_then hand between fin held more doer mid after first rest before behind one two) index apart none =

@@ -1,5 +1,5 @@
 -- What is done of a line before it reads statistics, and what after.
-use Rattle.std.proofs.Common.{◌≡◌, ◌≢◌, ◌∙◌, ℕ, List, [], ◌∷◌, ◌++◌, append-nil, append_assoc, Option, Some, None, ⊎_elim, refl, ap, sym, subst}
+use Rattle.std.proofs.Common.{◌≡◌, ◌≢◌, ◌∙◌, ℕ, List, [], ◌∷◌, ◌++◌, append_assoc, Option, None, ⊎_elim, refl, ap, sym, subst}
 use Rattle.std.specs.Prelude.{⊤}
 use Rattle.std.specs.List.{AllByRecursion}
 use Rattle.std.proofs.lemmas.List.{append_cancel_left}
@@ -10,6 +10,7 @@ use Rattle.hp_proc.specs.Acting.{Acts}
 use Rattle.hp_proc.specs.Doing.{Counted, Done}
 use Rattle.hp_proc.specs.Doing.Done.{StatsRead}
 use Rattle.hp_proc.specs.Handing.{counted_in}
+use Rattle.hp_proc.specs.NamesOfLines.{AreUntold}
 use Rattle.hp_proc.specs.ParticipantView.{ParticipantView}
 use Rattle.hp_stats.specs.declared.stat_pair.StatPair.{StatPair}
 
@@ -25,6 +26,12 @@ none_read trace first rest index counted none is = later first (subst (AllByRecu
     later : (first : List Done) → AllByRecursion IsNoRead (first ++ StatsRead index counted ∷ rest) → ⊥
     later [] none = none.0
     later (done ∷ first) none = later first none.1
+
+-- who has the names in hand reads none
+untold_reads : (trace : List Done) → AreUntold trace → AllByRecursion IsNoRead trace
+untold_reads [] untold = tt
+untold_reads (StatsRead heap counted ∷ trace) untold = absurd untold.0
+untold_reads (_ ∷ trace) untold = (tt, untold_reads trace untold.1)
 
 -- what stands after a place in one of two lists goes on with the other
 pub rest_is : (trace other first more rest : List Done) (done : Done) → trace ≡ first ++ done ∷ more → trace ++ other ≡ first ++ done ∷ rest
@@ -114,7 +121,9 @@ pub acts_split : {count : ℕ} {hand fin : Option ℕ} {held : List ℕ} {doer a
 acts_split (Acts.nothing hand doer) index first rest counted is = absurd (nothing_among first rest (StatsRead index counted) is)
 acts_split (Acts.waits_turn until doer after moved steps turned) index first rest counted is =
     absurd (nothing_among first rest (StatsRead index counted) is)
-acts_split (Acts.takes_heap doer heap pen) index first rest counted is = absurd (nothing_among first rest (StatsRead index counted) is)
+acts_split (Acts.takes_heap doer heap pen few) index first rest counted is =
+    absurd (nothing_among first rest (StatsRead index counted) is)
+acts_split (Acts.sees_heap doer heap pen few) index first rest counted is = absurd (none_read _ first rest index counted (tt, tt) is)
 acts_split (Acts.gives_heap doer heap pen) index first rest counted is = absurd (nothing_among first rest (StatsRead index counted) is)
 acts_split (Acts.makes_call doer its call answer uncut) index first rest counted is = absurd (none_read _ first rest index counted (tt, tt) is)
 acts_split (Acts.cuts_run doer its addr run segs) index first rest counted is = absurd (none_read _ first rest index counted (tt, tt) is)
@@ -124,10 +133,26 @@ acts_split (Acts.notifies_run doer after its run steps does) index first rest co
     absurd (none_read _ first rest index counted (tt, tt) is)
 acts_split (Acts.attaches doer after segs caught tried) index first rest counted is =
     absurd (none_read _ first rest index counted (tt, (tt, tt)) is)
-acts_split (Acts.detaches doer segs told above heard) index first rest counted is =
+acts_split (Acts.detaches doer segs told above left bare heard) index first rest counted is =
     absurd (nothing_among first rest (StatsRead index counted) is)
 acts_split (Acts.notes_left doer elements) index first rest counted is = absurd (nothing_among first rest (StatsRead index counted) is)
 acts_split (Acts.reads_names doer names) index first rest counted is = absurd (none_read _ first rest index counted (tt, tt) is)
+acts_split (Acts.holds_names held doer after names given trace steps does changes) index first rest counted is =
+    absurd (none_read _ first rest index counted (tt, untold_reads trace changes.untold) is)
+acts_split (Acts.changes_names hand doer change) index first rest counted is =
+    absurd (none_read _ first rest index counted (tt, tt) is)
+acts_split (Acts.looks_at_segs doer its segs) index first rest counted is =
+    absurd (nothing_among first rest (StatsRead index counted) is)
+acts_split (Acts.plans_range doer its addr len page segs) index first rest counted is =
+    absurd (none_read _ first rest index counted (tt, tt) is)
+acts_split (Acts.claims doer its chunk segs planned) index first rest counted is =
+    absurd (none_read _ first rest index counted (tt, (tt, (tt, tt))) is)
+acts_split (Acts.releases doer its chunk segs) index first rest counted is =
+    absurd (none_read _ first rest index counted (tt, (tt, tt)) is)
+acts_split (Acts.maps_chunk doer its chunk maps ended also) index first rest counted is =
+    absurd (none_read _ first rest index counted (tt, tt) is)
+acts_split (Acts.shares doer its chunk also) index first rest counted is = absurd (none_read _ first rest index counted (tt, tt) is)
+acts_split (Acts.leaves doer its chunk maps also) index first rest counted is = absurd (none_read _ first rest index counted (tt, tt) is)
 acts_split (Acts.looks_up_lines doer other lines) index first rest counted is = absurd (nothing_among first rest (StatsRead index counted) is)
 acts_split {count} (Acts.reads_stats doer heap pair) index [] rest counted is =
     let heaps : heap ≡ index = cc in

@@ -1,6 +1,7 @@
 -- Where threads leave something all came home.
 use Rattle.std.proofs.Common.{◌≡◌, ◌∙◌, ◌⊎◌, ℕ, zero, suc, ◌<◌, ◌≤◌, List, [], ◌∷◌, length, map, Some, inl, inr, slice_get, refl, ap, sym, subst, arith}
 use Rattle.std.specs.List.{All}
+use Rattle.std.specs.List.Sorted.{IsPermutation}
 use Rattle.std.specs.Option.{option_map}
 use Rattle.std.specs.Prelude.{Contains, slice_index_or}
 use Rattle.std.proofs.lemmas.Bool.{cases_lt}
@@ -20,9 +21,10 @@ use Rattle.hp_script.specs.declared.workload.Workload.{Workload}
 use Rattle.hp_segs.specs.SegsView.{SegsView}
 use Rattle.hp_serve.specs.Party.{Party}
 use Rattle.hp_zone.specs.declared.names.Names.{Names as NamesView}
-use Rattle.hp_proc.specs.Handed.{AreNamesHanded, names_shown}
+use Rattle.hp_proc.specs.Handed.{AreNamesHanded, AreStatesHanded, names_shown}
 use Rattle.hp_proc.specs.Handing.{shared_of}
 use Rattle.hp_proc.specs.LinesDone.{Course, trace_of}
+use Rattle.hp_proc.specs.NamesLog.{changes_in, changes_made}
 use Rattle.hp_proc.specs.ParticipantView.{ParticipantView}
 use Rattle.hp_proc.specs.SharedNames.{no_changes}
 use Rattle.hp_weave.specs.Weaving.{woven}
@@ -30,13 +32,15 @@ use Rattle.thm_run.proofs.PathSteps.Walked.{get_there}
 use Rattle.thm_run.specs.EndLaws.{IsGiven}
 use Rattle.thm_run.specs.Handing.{listeners_in}
 use Rattle.thm_run.specs.Seats.{Seat}
-use Rattle.thm_run.specs.SoFar.{first_names}
 use Rattle.hp_threads.specs.Running.{HasPromised, ThreadsLeave, answers_of}
 use Rattle.thm_together.specs.Watched.{AreToldInSeats}
 use Rattle.thm_moved.proofs.HomeAtBoard.{home_at_board}
-use Rattle.thm_moved.proofs.NamesAtBoard.{names_read_at_board, names_stay_at_board}
-use Rattle.thm_moved.proofs.NamesShown.{IsThese, these_handed}
+use Rattle.thm_moved.proofs.NamesAtBoard.{names_changed_at_board, names_handed_at_board}
+use Rattle.thm_moved.proofs.NamesLeftAtBoard.{names_left_at_board}
 use Rattle.thm_moved.specs.AtBoard.{AllCameToTheirSeats, CameToItsSeat}
+use Rattle.thm_moved.specs.NamesLeft.{AreLeftSo}
+use Rattle.thm_home.proofs.AwaitedForAtBoard.{HaveAwaitedFor, awaited_for_at_board}
+use Rattle.thm_home.proofs.StatesAtBoard.{states_at_board}
 use Rattle.thm_home.proofs.ThreadsHome.{came_to_it, on}
 use Rattle.thm_home.proofs.ThreadsMail.{index_there, posted_at}
 use Rattle.thm_home.proofs.WaysOfWorks.{first_seat}
@@ -189,6 +193,7 @@ module _ (workload : Workload) (firsts : List ParticipantView) (answers : List A
     opening = leave.board.opening;
     opens = record { count = leave.opens.count; serves = leave.opens.serves };
     segs_are = leave.opens.segs;
+    names_are = leave.opens.names;
     seats = leave.seats;
     pens = leave.pens;
     names = names;
@@ -199,6 +204,8 @@ module _ (workload : Workload) (firsts : List ParticipantView) (answers : List A
       tables_are = leave.tables_are;
       owned = leave.owned;
     };
+    left = leave.names_are;
+    noted = leave.noted;
     moved = leave.moved;
     first = λ who. (told who).first;
     last = λ who. (told who).last;
@@ -263,27 +270,27 @@ home_of_threads workload firsts answers heaps segs names tables watchers given d
 
 -- the lines with which all came home are those with which they came to their seats
 pub courses_at_home : (workload : Workload) (firsts : List ParticipantView) (answers : List Answer) (heaps : List HeapView) (segs : SegsView)
-    (names : NamesView) (tables : List Table) (watchers : List WatchersView) (given : IsGiven workload) (built : IsBuilt workload)
+    (names : NamesView) (tables : List Table) (watchers : List WatchersView) (given : IsGiven workload)
     (declared : AreDeclared workload.participants workload.lines.items)
     (leave : ThreadsLeave workload firsts answers heaps segs names tables watchers)
-    → (home_of_threads workload firsts answers heaps segs names tables watchers given built declared leave).home.courses
-    ≡ (all workload firsts answers heaps segs names tables watchers given built declared leave).courses
+    → (home_of_threads workload firsts answers heaps segs names tables watchers given declared leave).home.courses
+    ≡ (all workload firsts answers heaps segs names tables watchers given declared leave).courses
 unfolding home_of_threads
-courses_at_home workload firsts answers heaps segs names tables watchers given built declared leave =
+courses_at_home workload firsts answers heaps segs names tables watchers given declared leave =
     (home_at_board workload answers heaps segs tables
-    (all workload firsts answers heaps segs names tables watchers given built declared leave)).courses_are
+    (all workload firsts answers heaps segs names tables watchers given declared leave)).courses_are
 
 -- the watchers that they left are those of the seats in which they ended
 pub watched_in_seats : (workload : Workload) (firsts : List ParticipantView) (answers : List Answer) (heaps : List HeapView) (segs : SegsView)
-    (names : NamesView) (tables : List Table) (watchers : List WatchersView) (given : IsGiven workload) (built : IsBuilt workload)
+    (names : NamesView) (tables : List Table) (watchers : List WatchersView) (given : IsGiven workload)
     (declared : AreDeclared workload.participants workload.lines.items)
     (leave : ThreadsLeave workload firsts answers heaps segs names tables watchers)
-    → AreToldInSeats (home_of_threads workload firsts answers heaps segs names tables watchers given built declared leave).home.last
+    → AreToldInSeats (home_of_threads workload firsts answers heaps segs names tables watchers given declared leave).home.last
     (listeners_in watchers)
 unfolding home_of_threads all
-watched_in_seats workload firsts answers heaps segs names tables watchers given built declared leave =
+watched_in_seats workload firsts answers heaps segs names tables watchers given declared leave =
     let so = home_at_board workload answers heaps segs tables
-    (all workload firsts answers heaps segs names tables watchers given built declared leave) in
+    (all workload firsts answers heaps segs names tables watchers given declared leave) in
     record {
       many = length-map watchers (λ (own : WatchersView). own.listeners)
           ∙ (leave.promised.watched ∙ sym (so.home.count ∙ so.home.begun));
@@ -295,34 +302,73 @@ watched_in_seats workload firsts answers heaps segs names tables watchers given 
           (sym heard
           ∙ (slice_get-map (λ (own : WatchersView). own.listeners) watchers who
           ∙ ap (option_map (λ (own : WatchersView). own.listeners)) its.1))
-          ∙ watched_in workload firsts answers heaps segs names tables watchers given built declared leave who its.0
+          ∙ watched_in workload firsts answers heaps segs names tables watchers given declared leave who its.0
           (cases_lt who workload.participants) below its.1
           ∙ ap (λ (seat : Seat). seat.party.listeners) (sym (so.ended who seat there));
     }
 
--- and the names are those of the beginning
-pub names_of_threads : (workload : Workload) (firsts : List ParticipantView) (answers : List Answer) (heaps : List HeapView) (segs : SegsView)
-    (names : NamesView) (tables : List Table) (watchers : List WatchersView) → IsGiven workload
-    → AreDeclared workload.participants workload.lines.items
-    → ThreadsLeave workload firsts answers heaps segs names tables watchers → names ≡ first_names workload
-unfolding all
-names_of_threads workload firsts answers heaps segs names tables watchers given declared leave =
-    names_stay_at_board workload answers heaps segs tables
-    (all workload firsts answers heaps segs names tables watchers given declared leave)
-    ∙ leave.opens.names
-
--- so are those that lines read
-pub names_read_of_threads : (workload : Workload) (firsts : List ParticipantView) (answers : List Answer) (heaps : List HeapView)
+-- what each is handed of the names are fronts of the last ones
+pub names_handed_of_threads : (workload : Workload) (firsts : List ParticipantView) (answers : List Answer) (heaps : List HeapView)
     (segs : SegsView) (names : NamesView) (tables : List Table) (watchers : List WatchersView) (given : IsGiven workload)
-    (built : IsBuilt workload) (declared : AreDeclared workload.participants workload.lines.items)
+    (declared : AreDeclared workload.participants workload.lines.items)
     (leave : ThreadsLeave workload firsts answers heaps segs names tables watchers) (who : ℕ)
-    → AreNamesHanded no_changes (names_shown no_changes (trace_of
-    ((home_of_threads workload firsts answers heaps segs names tables watchers given built declared leave).home.courses who)))
+    → AreNamesHanded (shared_of names) (names_shown no_changes (trace_of
+    ((home_of_threads workload firsts answers heaps segs names tables watchers given declared leave).home.courses who)))
 unfolding home_of_threads all
-names_read_of_threads workload firsts answers heaps segs names tables watchers given built declared leave who =
-    let at = all workload firsts answers heaps segs names tables watchers given built declared leave in
+names_handed_of_threads workload firsts answers heaps segs names tables watchers given declared leave who =
+    let at = all workload firsts answers heaps segs names tables watchers given declared leave in
     let so = home_at_board workload answers heaps segs tables at in
-    subst (λ (courses : ℕ → List Course). AreNamesHanded no_changes (names_shown no_changes (trace_of (courses who)))) (sym so.courses_are)
-    (these_handed no_changes (names_shown no_changes (trace_of (at.courses who)))
-    (subst (λ (names : NamesView). All (IsThese (shared_of names)) (names_shown no_changes (trace_of (at.courses who)))) leave.opens.names
-    (names_read_at_board workload answers heaps segs tables at who)))
+    subst (λ (courses : ℕ → List Course). AreNamesHanded (shared_of names) (names_shown no_changes (trace_of (courses who)))) (sym so.courses_are)
+    (names_handed_at_board workload answers heaps segs tables at who)
+
+-- which have the changes of the lines
+pub names_changed_of_threads : (workload : Workload) (firsts : List ParticipantView) (answers : List Answer) (heaps : List HeapView)
+    (segs : SegsView) (names : NamesView) (tables : List Table) (watchers : List WatchersView) (given : IsGiven workload)
+    (declared : AreDeclared workload.participants workload.lines.items)
+    (leave : ThreadsLeave workload firsts answers heaps segs names tables watchers)
+    → IsPermutation (changes_made workload.participants (λ who. trace_of
+    ((home_of_threads workload firsts answers heaps segs names tables watchers given declared leave).home.courses who)))
+    (changes_in (shared_of names))
+unfolding home_of_threads all
+names_changed_of_threads workload firsts answers heaps segs names tables watchers given declared leave =
+    let at = all workload firsts answers heaps segs names tables watchers given declared leave in
+    let so = home_at_board workload answers heaps segs tables at in
+    subst (λ (courses : ℕ → List Course). IsPermutation (changes_made workload.participants (λ who. trace_of (courses who)))
+    (changes_in (shared_of names))) (sym so.courses_are) (names_changed_at_board workload answers heaps segs tables at)
+
+-- and they agree with the heaps, with external memory, and with the tables
+pub names_left_of_threads : (workload : Workload) (firsts : List ParticipantView) (answers : List Answer) (heaps : List HeapView)
+    (segs : SegsView) (names : NamesView) (tables : List Table) (watchers : List WatchersView) → IsGiven workload
+    → AreDeclared workload.participants workload.lines.items
+    → ThreadsLeave workload firsts answers heaps segs names tables watchers → AreLeftSo workload (shared_of names) heaps segs tables
+unfolding all
+names_left_of_threads workload firsts answers heaps segs names tables watchers given declared leave =
+    names_left_at_board workload answers heaps segs tables
+    (all workload firsts answers heaps segs names tables watchers given declared leave)
+
+-- so are the states of heaps that each is handed
+pub states_of_threads : (workload : Workload) (firsts : List ParticipantView) (answers : List Answer) (heaps : List HeapView)
+    (segs : SegsView) (names : NamesView) (tables : List Table) (watchers : List WatchersView) (given : IsGiven workload)
+    (declared : AreDeclared workload.participants workload.lines.items)
+    (leave : ThreadsLeave workload firsts answers heaps segs names tables watchers) (who : ℕ)
+    → All (AreStatesHanded who (trace_of
+    ((home_of_threads workload firsts answers heaps segs names tables watchers given declared leave).home.courses who))) heaps
+unfolding home_of_threads all
+states_of_threads workload firsts answers heaps segs names tables watchers given declared leave who =
+    let at = all workload firsts answers heaps segs names tables watchers given declared leave in
+    let so = home_at_board workload answers heaps segs tables at in
+    subst (λ (courses : ℕ → List Course). All (AreStatesHanded who (trace_of (courses who))) heaps) (sym so.courses_are)
+    (states_at_board workload answers heaps segs tables at who)
+
+-- and what was handed after lines that await others
+pub awaited_of_threads : (workload : Workload) (firsts : List ParticipantView) (answers : List Answer) (heaps : List HeapView)
+    (segs : SegsView) (names : NamesView) (tables : List Table) (watchers : List WatchersView) (given : IsGiven workload)
+    (declared : AreDeclared workload.participants workload.lines.items)
+    (leave : ThreadsLeave workload firsts answers heaps segs names tables watchers)
+    → HaveAwaitedFor (home_of_threads workload firsts answers heaps segs names tables watchers given declared leave).home.courses heaps
+unfolding home_of_threads all
+awaited_of_threads workload firsts answers heaps segs names tables watchers given declared leave =
+    let at = all workload firsts answers heaps segs names tables watchers given declared leave in
+    let so = home_at_board workload answers heaps segs tables at in
+    subst (λ (courses : ℕ → List Course). HaveAwaitedFor courses heaps) (sym so.courses_are)
+    (awaited_for_at_board workload answers heaps segs tables at)

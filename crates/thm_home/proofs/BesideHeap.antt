@@ -1,22 +1,18 @@
 -- What comes to one heap by a participant's steps, and steps that leave it alone.
-use Rattle.std.proofs.Common.{◌≡◌, ◌≢◌, ◌∙◌, ℕ, ◌+◌, Bool, true, false, cond, eq-eqb, ne_eqb, List, [], ◌∷◌, ◌++◌, append-nil, append_assoc, flat_map, length, Option, Some, None, if◌then◌else◌, ⊎_elim, refl, ap, sym, subst, arith}
-use Rattle.std.specs.Prelude.{⊤, ◌==◌, count_by}
+use Rattle.std.proofs.Common.{◌≡◌, ◌≢◌, ◌∙◌, ℕ, ◌+◌, Bool, true, false, cond, eq-eqb, ne_eqb, List, [], ◌∷◌, ◌++◌, append_assoc, flat_map, length, Option, Some, None, if◌then◌else◌, ⊎_elim, refl, ap, sym}
+use Rattle.std.specs.Prelude.{⊤, ◌==◌}
 use Rattle.std.specs.List.{AllByRecursion}
 use Rattle.std.proofs.lemmas.Bool.{cases_eq, cond-false, cond-true}
 use Rattle.std.proofs.lemmas.Grind.{flat_map-append}
 use Rattle.std.proofs.lemmas.Option.{same_Some}
 use Rattle.hp_hall.specs.Mail.{Fetches, Gives, MailStep, Notes, Posts, Takes}
 use Rattle.hp_hall.specs.declared.kept.Kept.TheVariants.{Heap, Names, Segments}
-use Rattle.hp_heap.proofs.HistoryFacts.Counting.{count_by-append, count_by-cons}
+use Rattle.hp_hall.specs.declared.slot.TheConstants.{NAMES_SLOT}
 use Rattle.hp_heap.specs.History.{HeapView}
 use Rattle.hp_heap.specs.declared.entry.Entry.{Entry}
-use Rattle.hp_proc.proofs.Joining.{calls_on}
-use Rattle.hp_proc.proofs.LawLemmas.{entries_go_on}
 use Rattle.hp_proc.specs.Acting.{Acts}
-use Rattle.hp_proc.specs.Courses.{calls_in}
 use Rattle.hp_proc.specs.Denying.{denials_of}
 use Rattle.hp_proc.specs.Doing.{Done}
-use Rattle.hp_proc.specs.Histories.{entries_for}
 use Rattle.hp_proc.specs.ParticipantView.{ParticipantView}
 use Rattle.hp_serve.specs.Attaching.{after_attaching}
 use Rattle.hp_serve.specs.Serving.{acks_after, gives_segments, takes_segments}
@@ -142,7 +138,7 @@ module _ (who index : ℕ) where
       ∙ sym (append_assoc (hold_ended who taken heap) (holds None first) (holds (held_after index None first) last))
   given_then false heap taken first last on = on taken
 
-  holds_then : (first last : List MailStep) (taken : Option HeapView)
+  pub holds_then : (first last : List MailStep) (taken : Option HeapView)
       → holds taken (first ++ last) ≡ holds taken first ++ holds (held_after index taken first) last
   holds_then [] last taken = refl
   holds_then (Takes slot (Heap heap pen) ∷ first) last taken =
@@ -198,11 +194,13 @@ module _ (who index : ℕ) where
 pub acts_free : {count : ℕ} {hand fin : Option ℕ} {held : List ℕ} {doer after : ParticipantView} {trace : List Done} {steps : List MailStep}
     → Acts count hand fin held doer after trace steps → (index : ℕ) (taken : Option HeapView) → (hand ≢ Some index → taken ≡ None)
     → fin ≢ Some index → held_after index taken steps ≡ None
-acts_free (Acts.nothing hand doer) index taken was apart = was apart
 acts_free {count} (Acts.waits_turn until doer after moved steps turned) index taken was apart =
     held_beside index taken steps
     (none_beside index steps (turn_none (denials_of doer.context.standing) count until doer.party after steps moved turned)) ∙ was apart
-acts_free (Acts.takes_heap doer heap pen) index taken was apart =
+acts_free (Acts.takes_heap doer heap pen few) index taken was apart =
+    cond-false (heap.plain.index == index) (Some heap) taken (ne_eqb heap.plain.index index (λ same. apart (ap Some same)))
+    ∙ was (λ same. cc)
+acts_free (Acts.sees_heap doer heap pen few) index taken was apart =
     cond-false (heap.plain.index == index) (Some heap) taken (ne_eqb heap.plain.index index (λ same. apart (ap Some same)))
     ∙ was (λ same. cc)
 acts_free (Acts.gives_heap doer heap pen) index taken was apart =
@@ -212,8 +210,6 @@ acts_free (Acts.gives_heap doer heap pen) index taken was apart =
     cond-false (heap.plain.index == index) None taken (ne_eqb heap.plain.index index differ)
     ∙ was (λ same. differ (same_Some heap.plain.index index same)))
     (cases_eq heap.plain.index index)
-acts_free (Acts.makes_call doer its call answer uncut) index taken was apart = was apart
-acts_free (Acts.cuts_run doer its addr run segs) index taken was apart = was apart
 acts_free {count} (Acts.asks_pages doer after asked run steps does) index taken was apart =
     held_beside index taken steps
     (none_beside index steps (ask_none (denials_of doer.context.standing) count doer.party after asked steps run does)) ∙ was apart
@@ -226,11 +222,9 @@ acts_free (Acts.attaches doer after segs caught tried) index taken was apart =
     held_beside index taken (takes_segments segs ∷ (acks ++ gives))
     (none_beside index (takes_segments segs ∷ (acks ++ gives)) (tt, none_both acks gives (acks_none caught (length segs.log)) (tt, tt)))
     ∙ was apart
-acts_free (Acts.detaches doer segs told above heard) index taken was apart = was apart
-acts_free (Acts.notes_left doer elements) index taken was apart = was apart
-acts_free (Acts.reads_names doer names) index taken was apart = was apart
-acts_free (Acts.looks_up_lines doer other lines) index taken was apart = was apart
-acts_free (Acts.reads_stats doer its pair) index taken was apart = was apart
+acts_free (Acts.holds_names held doer after names given trace steps does changes) index taken was apart =
+    held_both index taken steps (Gives NAMES_SLOT (Names given) ∷ []) ∙ acts_free does index taken was apart
 acts_free (Acts.and_then hand between fin held more doer mid after first rest before behind one two) index taken was apart =
     held_both index taken before behind
     ∙ acts_free two index (held_after index taken before) (λ differ. acts_free one index taken was differ) apart
+acts_free _ index taken was apart = was apart

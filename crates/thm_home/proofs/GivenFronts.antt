@@ -1,6 +1,6 @@
 -- By the moves of a board a history that was given back is a front of the last one; and of what came to it after that, a participant's own
 -- entries are those that came in its later holds.
-use Rattle.std.proofs.Common.{◌≡◌, ◌≢◌, ◌∙◌, ℕ, ◌+◌, ◌<◌, cond, eqb, eq-eqb, ne_eqb, List, [], ◌∷◌, ◌++◌, append-nil, append_assoc, drop, length, flat_map, Option, Some, None, ⊎_elim, refl, sym, ap, ap₂, subst, arith}
+use Rattle.std.proofs.Common.{◌≡◌, ◌≢◌, ◌∙◌, ℕ, ◌+◌, ◌<◌, eqb, eq-eqb, ne_eqb, List, [], ◌∷◌, ◌++◌, append-nil, append_assoc, drop, length, flat_map, Option, Some, None, ⊎_elim, refl, sym, ap, ap₂, subst, arith}
 use Rattle.std.specs.Prelude.{⊤, ◌==◌}
 use Rattle.std.proofs.lemmas.Bool.{cases_eq, cond-false, cond-true}
 use Rattle.std.proofs.lemmas.Grind.{flat_map-append}
@@ -11,11 +11,9 @@ use Rattle.hp_board.specs.MovesKept.{HasAdded, IsGoodThen, IsMove, Replays, Slot
 use Rattle.hp_board.specs.Views.{values_of}
 use Rattle.hp_board.specs.declared.view.Move.{Move}
 use Rattle.hp_board.specs.declared.view.Move.TheVariants.{Gave, Took}
-use Rattle.hp_board.specs.declared.words.TheConstants.{SLOTS}
 use Rattle.hp_hall.specs.Values.{history_of}
 use Rattle.hp_hall.specs.declared.kept.Kept.{Kept}
 use Rattle.hp_hall.specs.declared.kept.Kept.TheVariants.{Heap, Names, Segments}
-use Rattle.hp_hall.specs.declared.slot.TheConstants.{NAMES_SLOT}
 use Rattle.hp_heap.specs.History.{HeapView, entries_of}
 use Rattle.hp_heap.specs.declared.entry.Entry.{Entry}
 use Rattle.thm_run.specs.OwnLines.{added_in, hold_ended}
@@ -255,6 +253,14 @@ module _ (who index : ℕ) (low : index < MAX_HEAPS) (end : Slotted) where
   goes_from moves slots own replay free is =
       subst (λ (l : List Move). GoesOnWith who (own_in None l) (history_of (slots.value index)) (history_of (end.value index))) is
       (ends_by moves slots replay None (none_then slots free))
+
+  -- and from slots of which it has that one in hand
+  pub goes_held : (moves : List (ℕ × Move)) (slots : Slotted) (own : List Move) (heap : HeapView) → Replays slots moves end
+      → slots.word index ≡ who + 1 → history_of (slots.value index) ≡ heap.history → values_of who moves ≡ own
+      → GoesOnWith who (own_in (Some heap) own) (history_of (slots.value index)) (history_of (end.value index))
+  goes_held moves slots own heap replay held is_heap is =
+      subst (λ (l : List Move). GoesOnWith who (own_in (Some heap) l) (history_of (slots.value index)) (history_of (end.value index))) is
+      (ends_by moves slots replay (Some heap) (held, is_heap))
 
   -- THE SLOT HAS A HEAP ALL ALONG
 

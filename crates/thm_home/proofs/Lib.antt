@@ -1,4 +1,5 @@
 pub mod AllAtBoard
+pub mod AwaitedForAtBoard
 pub mod ThreadsEnded
 pub mod ThreadsHome
 pub mod ThreadsMail
@@ -13,3 +14,11 @@ pub mod WayReads
 pub mod StatsHanded
 pub mod StatsAtBoard
 pub mod ThreadsStats
+mod FirstLines
+pub mod NamesSeen
+mod SeatsTold
+mod SeenStates
+pub mod TakenByLines
+mod TakenFronts
+mod WaysCame
+pub mod StatesAtBoard

@@ -1,21 +1,17 @@
 -- Where a participant reads statistics on its way: what it had published and read by then, and what it made afterwards.
-use Rattle.std.proofs.Common.{◌≡◌, ◌≢◌, ◌⊎◌, ◌∙◌, ℕ, ◌+◌, ◌≤◌, cond, eqb, eq-eqb, List, [], ◌∷◌, ◌++◌, append-nil, append_assoc, length, length-append, Option, Some, None, inl, inr, ⊎_elim, refl, ap, sym, subst, arith}
-use Rattle.std.specs.Prelude.{Contains, count_by, ◌==◌}
+use Rattle.std.proofs.Common.{◌≡◌, ◌≢◌, ◌⊎◌, ◌∙◌, ℕ, ◌+◌, ◌≤◌, eqb, eq-eqb, List, [], ◌∷◌, ◌++◌, append-nil, append_assoc, length, Option, Some, None, ⊎_elim, refl, ap, sym, subst, arith}
+use Rattle.std.specs.Prelude.{Contains, ◌==◌}
 use Rattle.std.proofs.lemmas.Bool.{cases_eq, cond-true}
 use Rattle.std.proofs.lemmas.Grind.{flat_map-append}
 use Rattle.std.proofs.lemmas.List.Elements.{Contains-append_left, Contains-append_right}
 use Rattle.std.proofs.lemmas.Option.{same_Some}
-use Rattle.hp_chair.specs.FoundEmptyLaws.{nothing_among, split_at, tail_of}
 use Rattle.hp_chair.specs.Steps.{pairs_at, pairs_in}
 use Rattle.hp_hall.specs.HeapPairs.{pair_of}
 use Rattle.hp_hall.specs.Mail.{Gives, MailStep, Notes, Takes}
-use Rattle.hp_hall.specs.declared.kept.Kept.TheVariants.{Heap}
+use Rattle.hp_hall.specs.declared.kept.Kept.TheVariants.{Heap, Names}
 use Rattle.hp_hall.specs.declared.note.Note.TheVariants.{Published, ReadStats}
-use Rattle.hp_heap.proofs.HistoryFacts.Counting.{count_by-append}
+use Rattle.hp_hall.specs.declared.slot.TheConstants.{NAMES_SLOT}
 use Rattle.hp_heap.specs.History.{HeapView}
-use Rattle.hp_heap.specs.declared.entry.Entry.{Entry}
-use Rattle.hp_proc.proofs.Joining.{calls_on}
-use Rattle.hp_proc.proofs.LawLemmas.{entries_go_on}
 use Rattle.hp_proc.specs.Acting.{Acts}
 use Rattle.hp_proc.specs.Courses.{calls_in}
 use Rattle.hp_proc.specs.Denying.{denials_of}
@@ -23,20 +19,18 @@ use Rattle.hp_proc.specs.Doing.{Counted, Done}
 use Rattle.hp_proc.specs.Doing.Done.{StatsRead}
 use Rattle.hp_proc.specs.Handing.{counted_in}
 use Rattle.hp_proc.specs.Histories.{entries_for}
-use Rattle.hp_proc.specs.LinesDone.{Course, trace_of}
+use Rattle.hp_proc.specs.LinesDone.{Course}
 use Rattle.hp_proc.specs.ParticipantView.{ParticipantView}
 use Rattle.hp_serve.specs.Attaching.{after_attaching}
 use Rattle.hp_serve.specs.Serving.{acks_after, gives_segments, takes_segments}
 use Rattle.hp_stats.specs.StatViews.{PenView}
 use Rattle.hp_stats.specs.declared.stat_pair.StatPair.{StatPair}
-use Rattle.thm_run.proofs.LineSteps.LineMore.{trace_more}
 use Rattle.thm_run.proofs.ServesNoHeap.{none_both}
 use Rattle.thm_run.proofs.WaitsNoHeap.{acks_none, ask_none, notice_none, turn_none}
-use Rattle.thm_run.specs.OwnLines.{AddsByLines, IsLineOf, WentByLines}
+use Rattle.thm_run.specs.OwnLines.{WentByLines}
 use Rattle.thm_run.specs.Seats.{Seat}
-use Rattle.thm_home.proofs.ActsApart.{ActsApart, acts_apart, none_of}
-use Rattle.thm_home.proofs.ActsSplit.{IsSplit, acts_split}
-use Rattle.thm_home.proofs.BesideHeap.{AreBeside, acts_free, added, added_after, added_then, beside_both, held_after, held_beside, held_both, none_added, none_beside, others_beside}
+use Rattle.thm_home.proofs.ActsApart.{none_of}
+use Rattle.thm_home.proofs.BesideHeap.{AreBeside, added, beside_both, held_after, none_beside, others_beside}
 
 -- WHAT IT GAVE BACK LAST
 
@@ -65,7 +59,9 @@ acts_fresh (Acts.nothing hand doer) index so_far was apart = fresh_same index so
 acts_fresh {count} (Acts.waits_turn until doer after moved steps turned) index so_far was apart =
     fresh_more index so_far steps (was apart)
     (none_beside index steps (turn_none (denials_of doer.context.standing) count until doer.party after steps moved turned))
-acts_fresh (Acts.takes_heap doer heap pen) index so_far was apart =
+acts_fresh (Acts.takes_heap doer heap pen few) index so_far was apart =
+    fresh_more index so_far (Takes heap.plain.index (Heap heap pen) ∷ []) (was (none_of index)) ((λ same. apart (ap Some same)), tt)
+acts_fresh (Acts.sees_heap doer heap pen few) index so_far was apart =
     fresh_more index so_far (Takes heap.plain.index (Heap heap pen) ∷ []) (was (none_of index)) ((λ same. apart (ap Some same)), tt)
 acts_fresh (Acts.gives_heap doer heap pen) index so_far was apart =
     ⊎_elim
@@ -87,9 +83,23 @@ acts_fresh (Acts.attaches doer after segs caught tried) index so_far was apart =
     let gives : List MailStep = gives_segments (after_attaching doer.party.me caught segs) ∷ [] in
     fresh_more index so_far (takes_segments segs ∷ (acks ++ gives)) (was apart)
     (none_beside index (takes_segments segs ∷ (acks ++ gives)) (tt, none_both acks gives (acks_none caught (length segs.log)) (tt, tt)))
-acts_fresh (Acts.detaches doer segs told above heard) index so_far was apart = fresh_more index so_far _ (was apart) (tt, (tt, (tt, tt)))
+acts_fresh (Acts.detaches doer segs told above left bare heard) index so_far was apart = fresh_more index so_far _ (was apart) (tt, (tt, (tt, tt)))
 acts_fresh (Acts.notes_left doer elements) index so_far was apart = fresh_same index so_far (was apart)
 acts_fresh (Acts.reads_names doer names) index so_far was apart = fresh_more index so_far _ (was apart) (tt, (tt, tt))
+acts_fresh (Acts.holds_names held doer after names left trace steps does changes) index so_far was apart =
+    let takes : List MailStep = Takes NAMES_SLOT (Names names) ∷ [] in
+    let gives : List MailStep = Gives NAMES_SLOT (Names left) ∷ [] in
+    subst (IsFresh index) (append_assoc (so_far ++ takes) steps gives ∙ append_assoc so_far takes (steps ++ gives))
+    (fresh_more index ((so_far ++ takes) ++ steps) gives
+    (acts_fresh does index (so_far ++ takes) (λ differ. fresh_more index so_far takes (was differ) (tt, tt)) apart) (tt, tt))
+acts_fresh (Acts.changes_names hand doer change) index so_far was apart = fresh_same index so_far (was apart)
+acts_fresh (Acts.looks_at_segs doer its segs) index so_far was apart = fresh_more index so_far _ (was apart) (tt, (tt, tt))
+acts_fresh (Acts.plans_range doer its addr len page segs) index so_far was apart = fresh_more index so_far _ (was apart) (tt, (tt, tt))
+acts_fresh (Acts.claims doer its chunk segs planned) index so_far was apart = fresh_more index so_far _ (was apart) (tt, (tt, tt))
+acts_fresh (Acts.releases doer its chunk segs) index so_far was apart = fresh_more index so_far _ (was apart) (tt, (tt, tt))
+acts_fresh (Acts.maps_chunk doer its chunk maps ended is) index so_far was apart = fresh_same index so_far (was apart)
+acts_fresh (Acts.shares doer its chunk is) index so_far was apart = fresh_same index so_far (was apart)
+acts_fresh (Acts.leaves doer its chunk maps is) index so_far was apart = fresh_same index so_far (was apart)
 acts_fresh (Acts.looks_up_lines doer other lines) index so_far was apart = fresh_more index so_far _ (was apart) (tt, tt)
 acts_fresh (Acts.reads_stats doer its pair) index so_far was apart = fresh_more index so_far _ (was apart) (tt, tt)
 acts_fresh (Acts.and_then hand between fin held more doer mid after first rest before behind one two) index so_far was apart =

@@ -28,7 +28,7 @@ use Rattle.hp_heap.specs.declared.entry.Entry.{Entry}
 use Rattle.hp_maps.specs.declared.table.Table.{Table}
 use Rattle.hp_proc.specs.Doing.{Counted, Done}
 use Rattle.hp_proc.specs.Handed.{AreStatsHanded}
-use Rattle.hp_proc.specs.LinesDone.{Course, trace_of}
+use Rattle.hp_proc.specs.LinesDone.{trace_of}
 use Rattle.hp_script.specs.declared.answer.Answer.{Answer}
 use Rattle.hp_script.specs.declared.workload.Workload.{Workload}
 use Rattle.hp_segs.specs.SegsView.{SegsView}
@@ -110,12 +110,12 @@ published_among index slot steps before behind pair same is =
 
 -- WHAT STANDS AT THE BEGINNING AND AT THE END
 
-first_kind : (opening : Opening) (index : ℕ) (kept : Kept) → index < MAX_HEAPS → IsKeptAt opening index kept → IsHeapKept kept
+pub first_kind : (opening : Opening) (index : ℕ) (kept : Kept) → index < MAX_HEAPS → IsKeptAt opening index kept → IsHeapKept kept
 first_kind opening index (Heap heap pen) low at = tt
 first_kind opening index (Segments segs) low at = let last = at.last in absurd (omega (arith, last, low))
 first_kind opening index (Names names) low at = let last = at.last in absurd (omega (arith, last, low))
 
-left_heap : (out : HandedOut) (index : ℕ) (kept : Kept) (heap : HeapView) → IsHeapKept kept → IsLeftIn out index kept
+pub left_heap : (out : HandedOut) (index : ℕ) (kept : Kept) (heap : HeapView) → IsHeapKept kept → IsLeftIn out index kept
     → slice_get out.heaps index ≡ Some heap → history_of kept ≡ heap.history
 left_heap out index (Heap own pen) heap kind left there = ap (λ (h : HeapView). h.history) (same_Some own heap (sym left.0 ∙ there))
 left_heap out index (Segments segs) heap kind left there = absurd kind

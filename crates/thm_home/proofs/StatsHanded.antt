@@ -1,91 +1,32 @@
 -- What a participant read of the statistics of one heap on its way, where pens and passes have met.
-use Rattle.std.proofs.Common.{◌≡◌, ◌≢◌, ◌⊎◌, ◌∙◌, ℕ, zero, suc, ◌+◌, ◌<◌, ◌≤◌, cond, eqb, eq-eqb, ne_eqb, List, [], ◌∷◌, ◌++◌, append-nil, append_assoc, filter_map, length, map, take, Option, Some, None, inl, inr, ⊎_elim, refl, ap, sym, subst, arith}
+use Rattle.std.proofs.Common.{◌≡◌, ◌⊎◌, ◌∙◌, ℕ, ◌+◌, ◌<◌, ◌≤◌, List, [], ◌∷◌, ◌++◌, append_assoc, filter_map, length, map, Option, Some, None, inl, inr, refl, ap, sym, subst, arith}
 use Rattle.core.specs.List.{cons_option}
-use Rattle.std.specs.Prelude.{Contains}
-use Rattle.std.specs.List.{All, AllByRecursion, slice_get}
-use Rattle.std.proofs.lemmas.Bool.{cases_eq, cond-false, cond-true}
+use Rattle.std.specs.List.{All, slice_get}
 use Rattle.std.proofs.lemmas.List.Elements.{All-cons, All-nil}
-use Rattle.std.proofs.lemmas.Option.{same_Some}
 use Rattle.hp_chair.specs.Publishing.{CountsRise}
 use Rattle.hp_chair.specs.Steps.{pairs_in}
 use Rattle.hp_hall.specs.HeapPairs.{ArePairsOf}
-use Rattle.hp_hall.specs.Mail.{MailStep, Notes}
-use Rattle.hp_hall.specs.declared.note.Note.TheVariants.{ReadStats}
-use Rattle.hp_heap.specs.History.{HeapView, entries_of, opening_of, replay}
+use Rattle.hp_hall.specs.Mail.{MailStep}
+use Rattle.hp_heap.specs.History.{HeapView, opening_of}
 use Rattle.hp_heap.specs.PlainHeap.{PlainHeap}
 use Rattle.hp_heap.specs.Statistics.{statistics_of}
 use Rattle.hp_heap.specs.declared.entry.Entry.{Entry}
-use Rattle.hp_proc.specs.Courses.{OwnCall, calls_in}
+use Rattle.hp_proc.specs.Courses.{calls_in}
 use Rattle.hp_proc.specs.Doing.{Counted, Done}
 use Rattle.hp_proc.specs.Doing.Done.{StatsRead}
 use Rattle.hp_proc.specs.Handed.{AreStatisticsOf, AreStatsHanded, HoldCalls, counted_read}
 use Rattle.hp_proc.specs.Handing.{counted_in}
-use Rattle.hp_proc.specs.Histories.{entries_for, entry_for}
+use Rattle.hp_proc.specs.Histories.{entries_for}
 use Rattle.hp_stats.specs.Pairs.{AreAmong, IsOneOf, no_pair}
 use Rattle.hp_stats.specs.StatViews.{PenView}
 use Rattle.hp_stats.specs.declared.stat_pair.StatPair.{StatPair}
 use Rattle.thm_run.proofs.Rising.{Rises, seen_rising}
 use Rattle.thm_run.proofs.StatsFronts.{read_is}
-use Rattle.thm_home.proofs.BesideHeap.{added}
+use Rattle.thm_moved.proofs.OwnEntries.{AreAbove, all_above, own_above, stands_before}
 use Rattle.thm_home.proofs.GivenFronts.{GoesOnWith}
-use Rattle.thm_home.proofs.ReadPlaces.{IsReadAt, IsShown, pair_among}
+use Rattle.thm_home.proofs.ReadPlaces.{IsReadAt, pair_among}
 
 -- OWN ENTRIES
-
--- an entry of a participant has a number above that
-abbrev IsAbove : ℕ → ℕ → Entry → Type 0
-IsAbove who calls entry = entry.caller.participant ≡ who → calls < entry.caller.number
-
-abbrev AreAbove : ℕ → ℕ → List Entry → Type 0
-AreAbove who calls entries = AllByRecursion (IsAbove who calls) entries
-
--- the entries of calls that are numbered on from above
-own_above : (who index calls number : ℕ) (own : List OwnCall) → calls < number → AreAbove who calls (entries_for who index number own)
-own_above who index calls number [] above = tt
-own_above who index calls number (call ∷ own) above =
-    let rest = own_above who index calls (number + 1) own (omega (arith, above)) in
-    ⊎_elim
-    (λ (here : call.heap ≡ index).
-    subst (AreAbove who calls)
-    (sym (cond-true (eqb call.heap index) (entry_for who number call ∷ entries_for who index (number + 1) own)
-    (entries_for who index (number + 1) own) (eq-eqb call.heap index here))) ((λ its. above), rest))
-    (λ (apart : call.heap ≢ index).
-    subst (AreAbove who calls)
-    (sym (cond-false (eqb call.heap index) (entry_for who number call ∷ entries_for who index (number + 1) own)
-    (entries_for who index (number + 1) own) (ne_eqb call.heap index apart))) rest)
-    (cases_eq call.heap index)
-
--- where a participant's own ones are so, all are
-all_above : (who calls : ℕ) (entries : List Entry) → AreAbove who calls (entries_of who entries) → AreAbove who calls entries
-unfolding entries_of
-all_above who calls [] are = tt
-all_above who calls (entry ∷ entries) are =
-    let rest = entries_of who entries in
-    ⊎_elim
-    (λ (its : entry.caller.participant ≡ who).
-    let own = subst (AreAbove who calls) (cond-true (eqb entry.caller.participant who) (entry ∷ rest) rest (eq-eqb entry.caller.participant who its)) are in
-    (own.0, all_above who calls entries own.1))
-    (λ (apart : entry.caller.participant ≢ who).
-    let others = subst (AreAbove who calls) (cond-false (eqb entry.caller.participant who) (entry ∷ rest) rest (ne_eqb entry.caller.participant who apart)) are in
-    ((λ its. absurd (apart its)), all_above who calls entries others))
-    (cases_eq entry.caller.participant who)
-
--- an entry whose number is not above stands in the front
-stands_before : (who calls place : ℕ) (front more : List Entry) (entry : Entry) → AreAbove who calls more
-    → slice_get (front ++ more) place ≡ Some entry → entry.caller.participant ≡ who → entry.caller.number ≤ calls → place < length front
-stands_before who calls zero [] [] entry above there its few = cc
-stands_before who calls (suc place) [] [] entry above there its few = cc
-stands_before who calls zero [] (one ∷ more) entry above there its few =
-    let same : one ≡ entry = same_Some one entry there in
-    let high = subst (IsAbove who calls) same above.0 its in
-    absurd (omega (arith, high, few))
-stands_before who calls (suc place) [] (one ∷ more) entry above there its few =
-    let never = stands_before who calls place [] more entry above.1 there its few in
-    absurd (omega (arith, never))
-stands_before who calls zero (one ∷ front) more entry above there its few = omega arith
-stands_before who calls (suc place) (one ∷ front) more entry above there its few =
-    let rest = stands_before who calls place front more entry above there its few in
-    omega (arith, rest)
 
 -- a history goes on from a front that is not longer than so many entries, and of what came after that the participant's own are later calls
 pub record IsOfFront (who index : ℕ) (first rest : List Done) (entries : ℕ) (whole : List Entry) : Type 0 where

@@ -1,5 +1,6 @@
 -- What threads leave is all that a run by them has come to.
-use Rattle.std.proofs.Common.{◌≡◌, ℕ, ◌<◌, List, length, Option, Some, slice_get, true, ap, sym, subst, arith}
+use Rattle.std.proofs.Common.{◌≡◌, ◌∙◌, ℕ, ◌<◌, List, length, Option, Some, slice_get, true, ap, sym, subst, arith}
+use Rattle.std.specs.List.Sorted.{IsPermutation}
 use Rattle.std.proofs.lemmas.Option.{slice_get_within}
 use Rattle.hp_base.specs.Mapping.{may_fail_at}
 use Rattle.hp_base.specs.declared.map_answer.MapAnswer.{MapAnswer}
@@ -8,7 +9,6 @@ use Rattle.hp_board.specs.Closing.{left_naming}
 use Rattle.hp_hall.specs.AgreedNames.{AreAgreedNames}
 use Rattle.hp_heap.specs.History.{HeapView}
 use Rattle.hp_maps.specs.declared.table.Table.{Table}
-use Rattle.hp_script.specs.Built.{IsBuilt}
 use Rattle.hp_script.specs.Limits.{AreDeclared}
 use Rattle.hp_script.specs.declared.answer.Answer.{Answer}
 use Rattle.hp_script.specs.declared.workload.Workload.{Workload}
@@ -16,13 +16,17 @@ use Rattle.hp_segs.specs.SegsView.{SegsView}
 use Rattle.hp_segs.specs.declared.ask.Ask.{Ask}
 use Rattle.hp_zone.specs.declared.names.Names.{Names as NamesView}
 use Rattle.hp_serve.specs.Party.{Party}
-use Rattle.hp_proc.specs.Handed.{AreNamesHanded, names_shown}
+use Rattle.hp_proc.specs.AwaitedNames.{AreAwaitedFor}
+use Rattle.hp_proc.specs.Handed.{AreHanded}
+use Rattle.hp_proc.specs.Handing.{shared_of}
+use Rattle.hp_proc.specs.Heaps.{sockets_of}
 use Rattle.hp_proc.specs.LinesDone.{Course, courses_of, trace_of}
+use Rattle.hp_proc.specs.NamesLog.{changes_in, changes_made}
 use Rattle.hp_proc.specs.ParticipantView.{ParticipantView}
-use Rattle.hp_proc.specs.SharedNames.{no_changes}
+use Rattle.hp_proc.specs.RunEnds.{EndsWithNames}
 use Rattle.thm_run.proofs.PathSteps.Walked.{get_there}
 use Rattle.thm_run.specs.EndLaws.{FailsFor, IsGiven}
-use Rattle.thm_run.specs.SoFar.{first_names, first_segs}
+use Rattle.thm_run.specs.SoFar.{AreSoundNames, first_segs}
 use Rattle.thm_alike.proofs.EndAlike.{ends_alike}
 use Rattle.thm_alike.proofs.EndRestored.{courses_restore, end_tables_restore}
 use Rattle.thm_alike.proofs.FailedTables.{sound_logs_restore}
@@ -36,7 +40,9 @@ use Rattle.thm_together.proofs.HomeWays.{are_woven}
 use Rattle.thm_together.specs.CameHome.{courses_in_order}
 use Rattle.thm_together.specs.Failing as home
 use Rattle.hp_threads.specs.Running.{ThreadsLeave}
-use Rattle.thm_home.proofs.AllAtBoard.{home_of_threads, names_of_threads, names_read_of_threads}
+use Rattle.thm_moved.specs.NamesLeft.{AreLeftSo}
+use Rattle.thm_home.proofs.AllAtBoard.{awaited_of_threads, home_of_threads, names_changed_of_threads, names_handed_of_threads, names_left_of_threads, states_of_threads}
+use Rattle.thm_home.proofs.AwaitedForAtBoard.{HaveAwaitedFor}
 use Rattle.thm_home.specs.EndOfThreads.{CameHomeFrom, EndOfThreads, FailAsBrought, MayFailAt, MayFailSo, ThreadsEnd}
 
 module _ (workload : Workload) (firsts : List ParticipantView) (answers : List Answer) (heaps : List HeapView) (segs : SegsView)
@@ -84,20 +90,55 @@ module _ (workload : Workload) (firsts : List ParticipantView) (answers : List A
   own_is : (who : ℕ) → courses_of who (courses_in_order workload came.home.courses) ≡ came.home.courses who
   own_is = (are_woven workload answers heaps segs tables came.home).own
 
-  abbrev AreRead : List Course → Type 0
-  AreRead courses = AreNamesHanded no_changes (names_shown no_changes (trace_of courses))
+  each_is : ◌≡◌ {A = ℕ → List Course} came.home.courses (λ who. courses_of who (courses_in_order workload came.home.courses))
+  each_is i who = sym (own_is who) i
 
-  all : (names : NamesView) → names ≡ first_names workload → AreAgreedNames names (left_naming heaps) segs.ranges
-      → ((who : ℕ) → AreRead (came.home.courses who)) → ThreadsEnd workload firsts answers heaps segs names tables
-  all names named agree read =
+  -- what is said of the names by each participant's lines
+  record HasNames (names : NamesView) : Type 0 where
+    sockets : names.heaps.sockets ≡ sockets_of workload.pools.items
+    sound : AreSoundNames names
+    agree : AreAgreedNames names (left_naming heaps) segs.ranges
+    left : AreLeftSo workload (shared_of names) heaps segs tables
+    changed : IsPermutation (changes_made workload.participants (λ who. trace_of (came.home.courses who))) (changes_in (shared_of names))
+    handed : (who : ℕ) → AreHanded (shared_of names) heaps who (trace_of (came.home.courses who))
+    awaited_for : HaveAwaitedFor came.home.courses heaps
+
+  awaited_in_order : HaveAwaitedFor came.home.courses heaps → AreAwaitedFor (courses_in_order workload came.home.courses) heaps
+  awaited_in_order awaited who place other lines course there awaits =
+      let is = subst (λ (own : ℕ → List Course). HaveAwaitedFor own heaps) each_is awaited who place other lines course there awaits in
+      record { names = is.names; states = is.states }
+
+  names_end : (names : NamesView) → HasNames names
+      → EndsWithNames workload (courses_in_order workload came.home.courses) (shared_of names) heaps segs tables
+  names_end names has =
+      record {
+        changes = record {
+          made = subst (λ (own : ℕ → List Course). IsPermutation (changes_made workload.participants (λ who. trace_of (own who)))
+              (changes_in (shared_of names))) each_is has.changed;
+          sockets = has.left.sockets;
+        };
+        count = has.left.count;
+        directory = has.left.directory;
+        zones = has.left.zones;
+        claimed = has.left.claimed;
+        handed = λ who.
+            subst (λ (own : List Course). AreHanded (shared_of names) heaps who (trace_of own)) (sym (own_is who)) (has.handed who);
+        awaited_for = awaited_in_order has.awaited_for;
+        attached = has.left.attached;
+      }
+
+  all : (names : NamesView) → HasNames names → ThreadsEnd workload firsts answers heaps segs names tables
+  all names has =
       let ended = end_where_home workload answers heaps segs tables came.home in
       let led = led_where_home workload answers heaps segs tables came.home in
       record {
-        named = named;
-        names_agree = agree;
+        sockets = has.sockets;
+        names_sound = has.sound;
+        names_agree = has.agree;
         end = ended.0;
-        handed_names = λ who.
-            subst (λ (courses : List Course). AreRead (courses_of who courses)) (sym ended.1) (subst AreRead (sym (own_is who)) (read who));
+        names_end =
+            subst (λ (courses : List Course). EndsWithNames workload courses (shared_of names) heaps segs tables) (sym ended.1)
+            (names_end names has);
         failed = subst (λ (courses : List Course). FailAsBrought firsts courses segs.asks) (sym ended.1) failed;
         alike = ends_alike workload answers heaps segs tables ended.0;
         pages = end_pages_alike workload answers heaps segs tables ended.0;
@@ -112,8 +153,18 @@ module _ (workload : Workload) (firsts : List ParticipantView) (answers : List A
 pub end_of_threads : EndOfThreads
 end_of_threads workload firsts answers heaps segs names tables watchers given declared leave =
     all workload firsts answers heaps segs tables
-    (home_of_threads workload firsts answers heaps segs names tables watchers given declared leave) leave.promised.begun names
-    (names_of_threads workload firsts answers heaps segs names tables watchers given declared leave) leave.names_are.agreed
+    (home_of_threads workload firsts answers heaps segs names tables watchers given declared leave) leave.promised.begun names (record {
+      sockets = leave.names_are.sockets ∙ ap (λ (names : NamesView). names.heaps.sockets) leave.opens.names;
+      sound = (leave.names_are.zones, leave.names_are.directory);
+      agree = leave.names_are.agreed;
+      left = names_left_of_threads workload firsts answers heaps segs names tables watchers given declared leave;
+      changed = names_changed_of_threads workload firsts answers heaps segs names tables watchers given declared leave;
+      handed = λ who. record {
+          shown = names_handed_of_threads workload firsts answers heaps segs names tables watchers given declared leave who;
+          states = states_of_threads workload firsts answers heaps segs names tables watchers given declared leave who;
+      };
+      awaited_for = awaited_of_threads workload firsts answers heaps segs names tables watchers given declared leave;
+    })
 
 -- its lines are those with which all came home
 pub courses_at_end : (workload : Workload) (firsts : List ParticipantView) (answers : List Answer) (heaps : List HeapView) (segs : SegsView)

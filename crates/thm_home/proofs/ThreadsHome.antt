@@ -1,5 +1,5 @@
 -- What threads leave: each participant came to its seat at the board.
-use Rattle.std.proofs.Common.{◌≡◌, ◌∙◌, ℕ, ◌<◌, ◌≤◌, eqb, eq-eqb, List, [], ◌∷◌, refl, ap, sym, subst, arith}
+use Rattle.std.proofs.Common.{◌≡◌, ◌∙◌, ℕ, ◌<◌, ◌≤◌, eqb, eq-eqb, List, [], ◌∷◌, ◌++◌, refl, ap, sym, subst, arith}
 use Rattle.std.specs.List.{All}
 use Rattle.std.specs.Prelude.{Some, slice_get}
 use Rattle.std.proofs.lemmas.Bool.{cond-true}
@@ -8,15 +8,17 @@ use Rattle.std.proofs.lemmas.List.Elements.{All-head, All-tail}
 use Rattle.hp_base.specs.declared.limits.TheConstants.{MAX_DEADLINE}
 use Rattle.hp_board.specs.MovesKept.{all_free}
 use Rattle.hp_board.specs.SeatView.{SeatView}
-use Rattle.hp_board.specs.Views.{own_of, values_of}
+use Rattle.hp_board.specs.Views.{marked_in, own_of, values_of}
 use Rattle.hp_chair.specs.Steps.{moves_in}
 use Rattle.hp_events.specs.Watchers.{WatchersView}
-use Rattle.hp_hall.specs.Mail.{MailStep}
+use Rattle.hp_hall.specs.Mail.{MailStep, Notes}
+use Rattle.hp_hall.specs.declared.note.Note.TheVariants.{Stored}
 use Rattle.hp_heap.specs.History.{HeapView}
 use Rattle.hp_mail.specs.PassView.{PassView}
 use Rattle.hp_maps.specs.MapsView.{MapsView}
 use Rattle.hp_maps.specs.declared.table.Table.{Table}
 use Rattle.hp_script.specs.declared.answer.Answer.{Answer}
+use Rattle.hp_script.specs.declared.line.Act.TheVariants as act
 use Rattle.hp_script.specs.declared.workload.Workload.{Workload}
 use Rattle.hp_segs.specs.SegsView.{SegsView}
 use Rattle.hp_serve.specs.Ending.{LeavesTable}
@@ -29,6 +31,7 @@ use Rattle.hp_proc.specs.Courses.{calls_in}
 use Rattle.hp_proc.specs.Histories.{entries_for}
 use Rattle.hp_proc.specs.LinesDone.{AreDone, Course, courses_of, opening_standing, standing_after, trace_of}
 use Rattle.hp_proc.specs.ParticipantView.{ParticipantView}
+use Rattle.hp_proc.specs.SharedNames.{no_changes}
 use Rattle.thm_run.proofs.SeatFacts.FirstSegs.{member_first}
 use Rattle.thm_run.proofs.InTurnByHolds.LinesInHolds.{way_by_lines}
 use Rattle.thm_run.specs.EndLaws.{IsGiven}
@@ -42,7 +45,10 @@ use Rattle.thm_together.specs.CameHome.{WentItsWay, lines_for}
 use Rattle.thm_together.specs.OnItsWay.{IsOnItsWay}
 use Rattle.thm_moved.proofs.ClosedHeaps.{at_a_place}
 use Rattle.thm_moved.proofs.HeapsAdded.{adds_by_moves}
-use Rattle.thm_moved.specs.AtBoard.{CameToItsSeat}
+use Rattle.thm_moved.specs.AtBoard.{CameToItsSeat, HasLooked}
+use Rattle.thm_home.proofs.FirstLines.{AwaitsAlone, HasDoneFirst, HasLookedAt, awaits_alone, told_made, works_looked}
+use Rattle.thm_home.proofs.NamesSeen.{HasSeen, way_names}
+use Rattle.thm_home.proofs.SeatsTold.{looked_so, marked_so}
 use Rattle.thm_home.proofs.WaysOfWorks.{AddsAmong, IsCounting, first_seat, works_way}
 
 -- where all courses are of one participant, they are its own
@@ -169,6 +175,40 @@ module _ (workload : Workload) (firsts : List ParticipantView) (answers : List A
     asked = its_asked;
   }
 
+  its_me : first.party.me ≡ who
+  its_me = (begins workload given who below first promised.newcomer).me
+
+  its_adds : AddsAmong who steps
+  its_adds = subst (λ (me : ℕ). AddsAmong me steps) its_me adds
+
+  its_deadline : first.party.deadline ≤ MAX_DEADLINE
+  its_deadline = few workload given who below first promised.newcomer
+
+  -- what it told of its lines, it had done by then
+  told_so : (before after : List MailStep) (lines : ℕ) → steps ≡ before ++ Notes (Stored lines) ∷ after → HasDoneFirst who its_courses lines before
+  told_so =
+      subst (λ (me : ℕ). (before after : List MailStep) (lines : ℕ) → steps ≡ before ++ Notes (Stored lines) ∷ after
+      → HasDoneFirst me its_courses lines before) its_me
+      (told_made promised.has.works its_deadline (no_calls workload given who below first promised.newcomer) adds)
+
+  -- what it has seen of the names is what its lines gave back last
+  seen : HasSeen no_changes its_courses steps
+  seen = way_names its_way.0 no_changes
+
+  -- and where it awaited others, it looked them up
+  alone : AwaitsAlone its_courses
+  alone = awaits_alone workload (opening_standing workload who) its_courses went.done
+
+  looked_so_far : (place other lines : ℕ) (course : Course) → slice_get its_courses place ≡ Some course
+      → course.line.act ≡ act.Await other lines → HasLooked who place other lines its_courses seat.mine
+  looked_so_far place other lines course there awaits =
+      let at : HasLookedAt who other lines place its_courses steps =
+      subst (λ (me : ℕ). HasLookedAt me other lines place its_courses steps) its_me
+      (works_looked promised.has.works its_deadline (no_calls workload given who below first promised.newcomer) steps [] (sym (append-nil steps))
+      adds alone place other lines course there awaits) in
+      looked_so leave.board.opening who seat.mine steps promised.home.done its_adds place other lines at.found its_courses at.before at.after
+      at.enough at.is at.made at.taken
+
   pub came_to_it : CameToItsSeat workload who (first_seat first) on.seat its_courses steps seat table
   came_to_it = record {
     whose = whose;
@@ -178,9 +218,13 @@ module _ (workload : Workload) (firsts : List ParticipantView) (answers : List A
         promised.has.done.entries heap
         ∙ (ap (λ who. entries_for who heap 1 (calls_in (trace_of (courses_of who its_courses)))) whose
         ∙ ap (λ courses. entries_for who heap 1 (calls_in (trace_of courses))) own_is);
+    told = marked_so leave.board.opening who seat.mine steps promised.home.done its_adds its_courses told_so;
+    zones = promised.home.done.zones ∙ seen.zones;
+    names = promised.home.done.changes ∙ seen.names;
+    looked = looked_so_far;
     ends = record {
       tied = subst
-          (λ (party : Party). IsTiedAs seat.mine.log (own_of seat.mine) seat.mine.joined party.joined party.maps) (sym on.party)
+          (λ (party : Party). IsTiedAs seat.mine.log (own_of seat.mine) (λ heap. marked_in heap seat.mine) seat.mine.joined party.joined party.maps) (sym on.party)
           promised.has.tied;
       leaves = subst (λ (party : Party). LeavesTable party table) (sym on.party) promised.has.leaves;
       attached = promised.has.attached ∙ ap (λ standing. standing.attached) knows;

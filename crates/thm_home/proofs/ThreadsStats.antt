@@ -1,6 +1,5 @@
 -- Statistics that participants on threads were answered are those of fronts of the histories that they leave.
-use Rattle.std.proofs.Common.{◌≡◌, ◌∙◌, ℕ, ◌<◌, List, Some, ap, sym, subst, arith}
-use Rattle.std.specs.Prelude.{slice_get}
+use Rattle.std.proofs.Common.{◌≡◌, ◌∙◌, ℕ, ◌<◌, List, ap, sym, subst, arith}
 use Rattle.std.specs.List.{All}
 use Rattle.hp_events.specs.Watchers.{WatchersView}
 use Rattle.hp_heap.specs.History.{HeapView}

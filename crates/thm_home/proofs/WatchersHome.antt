@@ -3,7 +3,6 @@ use Rattle.std.proofs.Common.{List, sym, subst}
 use Rattle.hp_events.specs.Watchers.{WatchersView}
 use Rattle.hp_heap.specs.History.{HeapView}
 use Rattle.hp_maps.specs.declared.table.Table.{Table}
-use Rattle.hp_script.specs.Built.{IsBuilt}
 use Rattle.hp_script.specs.Limits.{AreDeclared}
 use Rattle.hp_script.specs.declared.answer.Answer.{Answer}
 use Rattle.hp_script.specs.declared.workload.Workload.{Workload}
@@ -21,14 +20,14 @@ use Rattle.thm_home.proofs.ThreadsEnded.{courses_at_end, end_of_threads}
 -- wherever threads leave something, so it is at their end
 pub watchers_of_threads : WatchedWhereHome → (workload : Workload) (firsts : List ParticipantView) (answers : List Answer) (heaps : List HeapView)
     (segs : SegsView) (names : NamesView) (tables : List Table) (watchers : List WatchersView) (given : IsGiven workload)
-    (built : IsBuilt workload) (declared : AreDeclared workload.participants workload.lines.items)
+    (declared : AreDeclared workload.participants workload.lines.items)
     (leave : ThreadsLeave workload firsts answers heaps segs names tables watchers)
     → HaveWatchers workload
-    (end_of_threads workload firsts answers heaps segs names tables watchers given built declared leave).end.courses segs tables
+    (end_of_threads workload firsts answers heaps segs names tables watchers given declared leave).end.courses segs tables
     (listeners_in watchers)
-watchers_of_threads law workload firsts answers heaps segs names tables watchers given built declared leave =
+watchers_of_threads law workload firsts answers heaps segs names tables watchers given declared leave =
     subst (λ (courses : List Course). HaveWatchers workload courses segs tables (listeners_in watchers))
-    (sym (courses_at_end workload firsts answers heaps segs names tables watchers given built declared leave))
+    (sym (courses_at_end workload firsts answers heaps segs names tables watchers given declared leave))
     (law workload answers heaps segs tables
-    (home_of_threads workload firsts answers heaps segs names tables watchers given built declared leave).home (listeners_in watchers)
-    (watched_in_seats workload firsts answers heaps segs names tables watchers given built declared leave))
+    (home_of_threads workload firsts answers heaps segs names tables watchers given declared leave).home (listeners_in watchers)
+    (watched_in_seats workload firsts answers heaps segs names tables watchers given declared leave))

@@ -1,5 +1,5 @@
 -- Each reading of statistics on a participant's way has its place among the steps.
-use Rattle.std.proofs.Common.{◌≡◌, ◌≢◌, ◌⊎◌, ◌∙◌, ℕ, zero, suc, ◌+◌, ◌≤◌, List, [], ◌∷◌, ◌++◌, append-nil, append_assoc, length, length-append, Option, Some, None, inl, inr, ⊎_elim, refl, ap, ap₂, sym, subst, arith}
+use Rattle.std.proofs.Common.{◌≡◌, ◌≢◌, ◌⊎◌, ◌∙◌, ℕ, zero, suc, ◌+◌, ◌≤◌, List, [], ◌∷◌, ◌++◌, append-nil, append_assoc, length, length-append, None, inl, inr, ⊎_elim, refl, ap, ap₂, sym, subst, arith}
 use Rattle.std.specs.Prelude.{count_by, ◌==◌}
 use Rattle.hp_chair.specs.FoundEmptyLaws.{nothing_among, split_at}
 use Rattle.hp_hall.specs.Mail.{MailStep, Notes}

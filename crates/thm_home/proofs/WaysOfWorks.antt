@@ -37,15 +37,25 @@ acts_counted : {count : ℕ} {hand last : Option ℕ} {held : List ℕ} {doer af
     → Acts count hand last held doer after trace steps → after.context.calls ≡ doer.context.calls + length (calls_in trace)
 acts_counted (Acts.nothing hand doer) = none_more doer.context.calls
 acts_counted (Acts.waits_turn until doer after moved steps turned) = none_more doer.context.calls
-acts_counted (Acts.takes_heap doer heap pen) = none_more doer.context.calls
+acts_counted (Acts.takes_heap doer heap pen few) = none_more doer.context.calls
 acts_counted (Acts.gives_heap doer heap pen) = none_more doer.context.calls
 acts_counted (Acts.makes_call doer heap call answer uncut) = one_more doer.context.calls
 acts_counted (Acts.cuts_run doer heap addr run taken) = one_more doer.context.calls
 acts_counted (Acts.asks_pages doer after asked run steps asks) = none_more doer.context.calls
 acts_counted (Acts.notifies_run doer after heap run steps notifies) = none_more doer.context.calls
 acts_counted (Acts.attaches doer after taken caught attaches) = none_more doer.context.calls
-acts_counted (Acts.detaches doer taken told above heard) = none_more doer.context.calls
+acts_counted (Acts.detaches doer taken told above left bare heard) = none_more doer.context.calls
 acts_counted (Acts.reads_names doer names) = none_more doer.context.calls
+acts_counted (Acts.changes_names hand doer change) = none_more doer.context.calls
+acts_counted (Acts.holds_names held doer after names given trace steps does changes) = acts_counted does
+acts_counted (Acts.sees_heap doer heap pen few) = none_more doer.context.calls
+acts_counted (Acts.looks_at_segs doer heap taken) = none_more doer.context.calls
+acts_counted (Acts.plans_range doer heap addr len page taken) = none_more doer.context.calls
+acts_counted (Acts.claims doer heap chunk taken planned) = one_more doer.context.calls
+acts_counted (Acts.releases doer heap chunk taken) = one_more doer.context.calls
+acts_counted (Acts.maps_chunk doer heap chunk maps ended is) = none_more doer.context.calls
+acts_counted (Acts.shares doer heap chunk is) = one_more doer.context.calls
+acts_counted (Acts.leaves doer heap chunk maps is) = one_more doer.context.calls
 acts_counted (Acts.looks_up_lines doer other lines) = none_more doer.context.calls
 acts_counted (Acts.reads_stats doer heap pair) = none_more doer.context.calls
 acts_counted (Acts.notes_left doer elements) = none_more doer.context.calls
@@ -66,7 +76,7 @@ pub record IsCounting (count : ℕ) (first last : ParticipantView) (courses : Li
   pub counted : last.context.calls ≡ length (calls_in (trace_of courses))
 
 -- a line's calls are what came to each heap by its steps
-line_adds : {count : ℕ} (first mid after : ParticipantView) (courses : List Course) (course : Course) (steps more : List MailStep)
+pub line_adds : {count : ℕ} (first mid after : ParticipantView) (courses : List Course) (course : Course) (steps more : List MailStep)
     → IsCounting count first mid courses steps → DoesCourse count mid after course more
     → ((heap : ℕ) → AreAddedIn first.party.me heap more (values_of heap (entries_by (λ slot. None) more)))
     → AddsItsCalls first.party.me (length (calls_in (trace_of courses))) course more
@@ -104,7 +114,7 @@ works_way {count} (Works.does doer mid after courses course steps more works did
       on = subst (λ (after : ParticipantView). IsOnItsWay count (first_seat doer) after (courses ++ course ∷ []) (steps ++ (more ++ noted)))
           (sym did.ended)
           (line_on_its_way count (first_seat doer) mid did.mid courses course steps more did.held
-          (Stored (length courses + 1) ∷ []) few was.on did.acts did.once
+          (Stored (length courses + 1) ∷ []) few was.on did.acts did.once did.names did.awaited
           (sym (ap (λ (doer : ParticipantView). doer.context.standing) did.ended) ∙ did.left) its);
       counted = omega (arith, same, made, before, all);
     }

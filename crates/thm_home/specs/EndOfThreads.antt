@@ -19,14 +19,15 @@ use Rattle.hp_segs.specs.declared.ask.Ask.{Ask}
 use Rattle.hp_segs.specs.declared.outcome.AskLog.{AskLog}
 use Rattle.hp_zone.specs.declared.names.Names.{Names as NamesView}
 use Rattle.hp_proc.specs.Ends.{IsEnd}
-use Rattle.hp_proc.specs.Handed.{AreNamesHanded, names_shown}
-use Rattle.hp_proc.specs.LinesDone.{Course, courses_of, trace_of}
+use Rattle.hp_proc.specs.Handing.{shared_of}
+use Rattle.hp_proc.specs.Heaps.{sockets_of}
+use Rattle.hp_proc.specs.LinesDone.{Course, courses_of}
 use Rattle.hp_proc.specs.ParticipantView.{ParticipantView}
-use Rattle.hp_proc.specs.SharedNames.{no_changes}
-use Rattle.thm_run.specs.EndLaws.{FailsFor, IsFailedMapping, IsGiven, IsRefusedAttach}
+use Rattle.hp_proc.specs.RunEnds.{EndsWithNames}
+use Rattle.thm_run.specs.EndLaws.{FailsFor, IsFailedMapping, IsGiven, IsRefusedMapping}
 use Rattle.thm_run.specs.Handing.{HaveStatistics, HaveWatchers, listeners_in}
 use Rattle.thm_run.specs.Seats.{Seat}
-use Rattle.thm_run.specs.SoFar.{first_names, first_segs}
+use Rattle.thm_run.specs.SoFar.{AreSoundNames, first_segs}
 use Rattle.thm_alike.specs.Alike.{PagesAlike, TablesAlike}
 use Rattle.thm_alike.specs.Restored.{FailuresLeaveNoRow, GrowthsRestore, TablesRestore}
 use Rattle.thm_causes.specs.Nones.{NothingWasFound}
@@ -46,30 +47,33 @@ pub record MayFailAt (firsts : List ParticipantView) (participant call : ℕ) : 
   pub may : may_fail_at first.party.maps.may_fail call ≡ true
 
 -- mappings failed only at calls at which the mappers may that these participants brought, and at no call twice: for a growth, and for a
--- line that attaches
+-- line that attaches its participant, or a chunk
 pub record FailAsBrought (firsts : List ParticipantView) (courses : List Course) (asks : List AskLog) : Type 0 where
   pub failures : (entry : AskLog) (participant call : ℕ) → Contains asks entry → (failed : IsFailedMapping participant call entry)
       → MayFailSo firsts participant call failed.addr failed.got entry.ask
   pub once : (place other : ℕ) (entry second : AskLog) (participant call : ℕ) → slice_get asks place ≡ Some entry
       → slice_get asks other ≡ Some second → IsFailedMapping participant call entry → IsFailedMapping participant call second → place ≡ other
   pub refusals : (place : ℕ) (course : Course) (participant call : ℕ) → slice_get courses place ≡ Some course
-      → IsRefusedAttach participant call course → MayFailAt firsts participant call
+      → IsRefusedMapping participant call course → MayFailAt firsts participant call
   pub refused_once : (place other : ℕ) (course second : Course) (participant call : ℕ) → slice_get courses place ≡ Some course
-      → slice_get courses other ≡ Some second → IsRefusedAttach participant call course → IsRefusedAttach participant call second
+      → slice_get courses other ≡ Some second → IsRefusedMapping participant call course → IsRefusedMapping participant call second
       → place ≡ other
 
--- What participants leave that began so and did their lines on threads: an end of the workload, with the names of its beginning, which no
--- line that is built changes, so all that lines read of them are these; they agree with the heaps and with the claimed external memory. Mappings
--- failed only as the mappers may that they brought; all who are attached map what is in use alike, each page of a heap with it, and a growth that
+-- What participants leave that began so and did their lines on threads: an end of the workload, with names that opened with the heaps of its sockets,
+-- that have the changes of the lines and no others, and that agree with the heaps and with the claimed external memory: directory, chunks, memzones and
+-- marks; what lines are handed of them and of the states of heaps are fronts of what there is and never grow shorter from line to line, and after lines that
+-- await others they hold what those changed. Mappings failed
+-- only as the mappers may that they brought; all who are attached map what is in use alike, each page of a heap with it, and a growth that
 -- failed left no row; a line that is answered that there is no memory found no address in its heaps and was granted nothing; and the segment
 -- value came about by calls, each under its condition, among which each growth that failed left all else as the other calls meanwhile would have
 -- left it, in the tables too.
 pub record ThreadsEnd (workload : Workload) (firsts : List ParticipantView) (answers : List Answer) (heaps : List HeapView) (segs : SegsView)
     (names : NamesView) (tables : List Table) : Type 0 where
-  pub named : names ≡ first_names workload
+  pub sockets : names.heaps.sockets ≡ sockets_of workload.pools.items
+  pub names_sound : AreSoundNames names
   pub names_agree : AreAgreedNames names (left_naming heaps) segs.ranges
   pub end : IsEnd workload answers heaps segs tables
-  pub handed_names : (who : ℕ) → AreNamesHanded no_changes (names_shown no_changes (trace_of (courses_of who end.courses)))
+  pub names_end : EndsWithNames workload end.courses (shared_of names) heaps segs tables
   pub failed : FailAsBrought firsts end.courses segs.asks
   pub alike : TablesAlike segs tables
   pub pages : PagesAlike heaps segs tables

@@ -3,8 +3,9 @@ use Rattle.std.proofs.Common.{◌≡◌, ◌∙◌, ◌||◌, ℕ, ◌≤◌, Bo
 use Rattle.std.specs.Prelude.{Contains}
 use Rattle.std.specs.Option.{option_map}
 use Rattle.std.proofs.lemmas.Option.{slice_get-get_or}
+use Rattle.hp_base.specs.declared.chunk.Chunk.{Chunk}
 use Rattle.hp_board.specs.SeatView.{SeatView}
-use Rattle.hp_board.specs.Views.{own_of}
+use Rattle.hp_board.specs.Views.{marked_in, own_of}
 use Rattle.hp_board.specs.declared.opening.Opening.{Opening}
 use Rattle.hp_hall.specs.Own.{rows_known}
 use Rattle.hp_heap.specs.History.{HeapView}
@@ -40,8 +41,11 @@ module _ (workload : Workload) (opening : Opening) (did : ℕ → List Done) (se
       ∙ (closed.tables_are seat among).table is
   known_so false is = none_known seat.mine.log ∙ sym (none_known segs.log)
 
-  table_kept : (joined : Bool) → seat.mine.joined ≡ joined → HasTable seat.mine.log (part_of joined (own_of seat.mine)) last.party.maps
-      → HasTable segs.log (part_of joined (own_of seat.mine)) last.party.maps
+  abbrev marked : ℕ → List Chunk
+  marked heap = marked_in heap seat.mine
+
+  table_kept : (joined : Bool) → seat.mine.joined ≡ joined → HasTable seat.mine.log (part_of joined (own_of seat.mine)) marked last.party.maps
+      → HasTable segs.log (part_of joined (own_of seat.mine)) marked last.party.maps
   table_kept joined is has =
       let front = (closed.tables_are seat among).log in
       let longer = ap (λ (log : List LogRecord). length log) front.1 in
@@ -78,7 +82,9 @@ module _ (workload : Workload) (opening : Opening) (did : ℕ → List Done) (se
   pub left : LeavesItsTable workload who segs last courses table
   left = record {
     own = own_of seat.mine;
+    marked = marked;
     kept = table_kept last.party.joined ends.tied.same ends.tied.table.table;
+    away = ends.tied.left;
     leaves = ends.leaves;
     member = member_is;
     attached = sym ends.tied.same ∙ ends.attached;

@@ -7,17 +7,9 @@ use Rattle.std.proofs.lemmas.Bool.{cases_lt}
 use Rattle.std.proofs.lemmas.List.{length-map}
 use Rattle.std.proofs.lemmas.List.FromFn.{get_or-range_with_len, length-range_with_len}
 use Rattle.std.proofs.lemmas.Option.{same_Some, slice_get-get_or, slice_get-map, slice_get_within}
-use Rattle.hp_base.specs.declared.limits.TheConstants.{MAX_HEAPS}
-use Rattle.hp_board.proofs.KeptAt.{segs_kept}
-use Rattle.hp_board.specs.Closing.{HandedOut, IsLeftIn, handed_out}
-use Rattle.hp_board.specs.MovesKept.{OpensWith, all_free}
-use Rattle.hp_board.specs.SeatView.{SeatView}
-use Rattle.hp_board.specs.Views.{values_of}
-use Rattle.hp_board.specs.declared.opening.Opening.{Opening}
-use Rattle.hp_chair.specs.Steps.{moves_in, posted_to}
+use Rattle.hp_board.specs.MovesKept.{all_free}
+use Rattle.hp_chair.specs.Steps.{posted_to}
 use Rattle.hp_heap.proofs.AllocFacts.ChoiceLaw.{Contains-none}
-use Rattle.hp_hall.specs.declared.kept.Kept.{Kept}
-use Rattle.hp_hall.specs.declared.kept.Kept.TheVariants.{Segments}
 use Rattle.hp_heap.specs.History.{HeapView}
 use Rattle.hp_maps.specs.declared.table.Table.{Table}
 use Rattle.hp_script.specs.declared.answer.Answer.{Answer}
@@ -27,24 +19,20 @@ use Rattle.hp_weave.specs.Holds.{Hold}
 use Rattle.hp_proc.specs.Courses.{calls_in}
 use Rattle.hp_proc.specs.Histories.{entries_for}
 use Rattle.hp_proc.specs.LinesDone.{Course, trace_of}
-use Rattle.thm_run.proofs.LineSteps.LineMore.{asked_later}
 use Rattle.thm_run.proofs.InTurnByHolds.LinesInHolds.{way_by_lines}
-use Rattle.thm_run.proofs.PathSteps.Walked.{get_there}
 use Rattle.thm_run.specs.ByRuns.{AreOfHeaps}
 use Rattle.thm_run.specs.Seats.{Seat}
-use Rattle.thm_run.specs.SoFar.{first_segs}
 use Rattle.thm_run.specs.Told.{ArePosted, TellsIn}
 use Rattle.thm_together.proofs.HomeEnds.{end_where_home}
 use Rattle.thm_together.specs.CameHome.{AllCameHome, CameByHolds, LeavesItsTable, WentItsWay}
-use Rattle.thm_moved.proofs.ClosedHeaps.{at_a_place, kept_by_close}
+use Rattle.thm_moved.proofs.AwaitedAtBoard.{awaited_at_board}
+use Rattle.thm_moved.proofs.CameToBoard.{came_by, its_seat, made, moves_are, went}
+use Rattle.thm_moved.proofs.ClosedHeaps.{kept_by_close}
 use Rattle.thm_moved.proofs.ClosedTables.{tables_by_close}
 use Rattle.thm_moved.proofs.HeldByMoves.{held_by_moves}
 use Rattle.thm_moved.proofs.MailTold.{fetched_in, told_by_post}
-use Rattle.thm_moved.proofs.MovesHeld.{segs_stay}
 use Rattle.thm_moved.proofs.MovesWithin.{calls_within}
-use Rattle.thm_moved.specs.AtBoard.{AllCameToTheirSeats, CameToItsSeat, EndAtBoard, HomeAtBoard}
-use Rattle.thm_moved.specs.ByClose.{HaveMade}
-use Rattle.thm_moved.specs.ByMoves.{CameByMoves}
+use Rattle.thm_moved.specs.AtBoard.{AllCameToTheirSeats, EndAtBoard, HomeAtBoard}
 
 -- what numbers have, in their order
 listed : {X : Type 0} → ℕ → (ℕ → X) → List X
@@ -73,109 +61,21 @@ listed_is count of_each who x there =
     let below : who < count = omega (arith, within, length-listed count of_each) in
     (below, same_Some (of_each who) x (sym (listed_at count of_each who below) ∙ there))
 
--- the segment value of a slot that opened with it, and of one that was left
-opened_with : (opening : Opening) (kept : Kept) (segs : SegsView) → kept ≡ Segments segs → OpensWith opening kept
-    → segs ≡ opening.segs.value
-opened_with opening kept segs is opens = subst (OpensWith opening) is opens
-
-left_with : (out : HandedOut) (kept : Kept) (segs : SegsView) → kept ≡ Segments segs → IsLeftIn out MAX_HEAPS kept → segs ≡ out.segs
-left_with out kept segs is left = subst (IsLeftIn out MAX_HEAPS) is left
-
 module _ (workload : Workload) (answers : List Answer) (heaps : List HeapView) (segs : SegsView) (tables : List Table)
     (all : AllCameToTheirSeats workload answers heaps segs tables) where
   abbrev count : ℕ
   count = workload.participants
 
-  -- each came home to its seat
-  module _ (who : ℕ) (below : who < count) where
-    its_seat : (seat : SeatView) × (slice_get all.seats who ≡ Some seat)
-    its_seat = get_there all.seats who (omega (arith, below, all.many))
-
-    its_table : (table : Table) × (slice_get tables who ≡ Some table)
-    its_table = get_there tables who (omega (arith, below, all.count))
-
-    came : CameToItsSeat workload who (all.first who) (all.last who) (all.courses who) (all.steps who) its_seat.0 its_table.0
-    came = all.home who its_seat.0 its_table.0 its_seat.1 its_table.1
-
-    among : Contains all.seats its_seat.0
-    among = at_a_place all.seats who its_seat.0 its_seat.1
-
-    -- its asks were answered by what the board has at last
-    pub went : WentItsWay workload who segs.log segs.asks (all.first who) (all.last who) (all.courses who) (all.steps who)
-    went =
-        let log = (all.closed.tables_are its_seat.0 among).log in
-        let heard = (all.closed.tables_are its_seat.0 among).heard in
-        record {
-          begins = came.went.begins;
-          opens = came.went.opens;
-          waits = came.went.waits;
-          way = came.went.way;
-          adds = came.went.adds;
-          lines = came.went.lines;
-          done = came.went.done;
-          left = came.went.left;
-          asked = asked_later its_seat.0.mine.log log.0 segs.log its_seat.0.mine.heard heard.0 segs.asks who 0 (all.last who).party.asked
-              (all.last who).trace log.1 heard.1 came.went.asked;
-        }
-
-    moves_are : values_of who all.moved.moves ≡ moves_in (all.steps who)
-    moves_are =
-        ap (λ (other : ℕ). values_of other all.moved.moves) (sym came.whose) ∙ (all.moved.own its_seat.0 among ∙ came.moves)
-
-  made : HaveMade workload all.seats (λ who. trace_of (all.courses who))
-  made = record {
-    count = all.many;
-    whose = λ who seat there.
-        let below : who < count = omega (arith, all.many, slice_get_within all.seats who seat there) in
-        let table = its_table who below in
-        (all.home who seat table.0 there table.1).whose;
-    made = λ who heap seat there.
-        let below : who < count = omega (arith, all.many, slice_get_within all.seats who seat there) in
-        let table = its_table who below in
-        (all.home who seat table.0 there table.1).made heap;
-  }
-
-  -- the first segment value and the last one
-  opened_segs : all.moved.first MAX_HEAPS ≡ Segments (first_segs workload)
-  opened_segs =
-      let opened = all.moved.opened MAX_HEAPS (omega arith) in
-      let early = segs_kept all.opening (all.moved.first MAX_HEAPS) opened.at in
-      early.1 ∙ ap Segments (opened_with all.opening (all.moved.first MAX_HEAPS) early.0 early.1 opened.opens ∙ all.segs_are)
-
-  left_segs : all.moved.last MAX_HEAPS ≡ Segments segs
-  left_segs =
-      let late =
-      segs_stay all.moved.moves (all_free all.moved.first) (all_free all.moved.last) all.moved.replay (first_segs workload) opened_segs in
-      late.1
-      ∙ ap Segments
-      (left_with (handed_out heaps all.pens segs all.names) (all.moved.last MAX_HEAPS) late.0 late.1 (all.moved.left MAX_HEAPS (omega arith)))
-
-  -- the moves of all
-  pub came_by : CameByMoves workload all.moved.moves all.steps segs
-  came_by =
-      record {
-        first = all.moved.first;
-        last = all.moved.last;
-        opened = opened_segs;
-        left = left_segs;
-        replay = all.moved.replay;
-        own = λ who.
-            ⊎_elim (λ (below : who < count). moves_are who below)
-            (λ (beyond : count ≤ who).
-            all.moved.strange who (omega (arith, beyond, all.opens.count)) ∙ ap moves_in (sym (all.no_steps who beyond)))
-            (cases_lt who count);
-      }
-
   held : (holds : List (Hold SegsView)) × CameByHolds workload all.steps holds segs
-  held = held_by_moves workload all.moved.moves all.steps segs came_by
+  held = held_by_moves workload all.moved.moves all.steps segs (came_by workload answers heaps segs tables all)
 
   within : AreOfHeaps (λ who. trace_of (all.courses who)) heaps
   within who index beyond =
       ⊎_elim
       (λ (below : who < count).
-      let its = went who below in
+      let its = went workload answers heaps segs tables all who below in
       calls_within all.moved.moves (all_free all.moved.first) (all_free all.moved.last) count who (all.first who) (all.last who)
-      (all.courses who) (all.steps who) all.moved.replay (moves_are who below) its.way its.adds index
+      (all.courses who) (all.steps who) all.moved.replay (moves_are workload answers heaps segs tables all who below) its.way its.adds index
       (omega (arith, beyond, all.closed.heaps_are.count)))
       (λ (past : count ≤ who). ap (λ (own : List Course). entries_for who index 1 (calls_in (trace_of own))) (all.no_lines who past))
       (cases_lt who count)
@@ -183,7 +83,7 @@ module _ (workload : Workload) (answers : List Answer) (heaps : List HeapView) (
   -- each notice that participant 0 fetched was told
   are_posted : ArePosted all.steps (all.last 0)
   are_posted frame from number heap address len among says =
-      let zero = went 0 all.given.primary in
+      let zero = went workload answers heaps segs tables all 0 all.given.primary in
       let path =
       (way_by_lines count 0 (all.first 0) (all.last 0) (all.courses 0) (all.steps 0) zero.way).0 in
       told_so (all.posted frame (fetched_in path zero.begins.fetched frame among))
@@ -192,7 +92,7 @@ module _ (workload : Workload) (answers : List Answer) (heaps : List HeapView) (
       told_so (sender, posted) =
           ⊎_elim
           (λ (below : sender < count).
-          let its = went sender below in
+          let its = went workload answers heaps segs tables all sender below in
           let told =
           told_by_post frame from number heap address len says
           (way_by_lines count sender (all.first sender) (all.last sender) (all.courses sender) (all.steps sender) its.way).0 posted in
@@ -216,20 +116,21 @@ module _ (workload : Workload) (answers : List Answer) (heaps : List HeapView) (
         let ends = listed_is count all.last who new late in
         subst (λ (old : Seat). WentItsWay workload who segs.log segs.asks old new (all.courses who) (all.steps who)) begins.1
         (subst (λ (new : Seat). WentItsWay workload who segs.log segs.asks (all.first who) new (all.courses who) (all.steps who)) ends.1
-        (went who begins.0));
+        (went workload answers heaps segs tables all who begins.0));
     no_lines = all.no_lines;
     no_steps = all.no_steps;
     posted = λ seat there. subst (ArePosted all.steps) (listed_is count all.last 0 seat there).1 are_posted;
     answered = all.answered;
+    awaited = awaited_at_board workload answers heaps segs tables all;
     holds = held.0;
     held = held.1;
-    kept = kept_by_close workload all.opening all.courses all.seats heaps all.pens segs all.opens made all.closed all.no_lines within;
+    kept = kept_by_close workload all.opening all.courses all.seats heaps all.pens segs all.opens (made workload answers heaps segs tables all) all.closed all.no_lines within;
     tables_are = all.count;
     leaves = λ who seat table late there.
         let ends = listed_is count all.last who seat late in
-        let its = its_seat who ends.0 in
+        let its = its_seat workload answers heaps segs tables all who ends.0 in
         subst (λ (seat : Seat). LeavesItsTable workload who segs seat (all.courses who) table) ends.1
-        (tables_by_close workload all.opening (λ who. trace_of (all.courses who)) all.seats heaps all.pens segs made all.closed who its.0
+        (tables_by_close workload all.opening (λ who. trace_of (all.courses who)) all.seats heaps all.pens segs (made workload answers heaps segs tables all) all.closed who its.0
         (all.last who) (all.courses who) table its.1 (all.home who its.0 table its.1 there).ends);
   }
 

@@ -1,3 +1,5 @@
+pub mod AwaitedAtBoard
+pub mod CameToBoard
 pub mod ClosedHeaps
 pub mod ClosedTables
 pub mod HeapsAdded
@@ -9,5 +11,8 @@ pub mod MovesAlone
 pub mod MovesHeld
 pub mod MovesWithin
 pub mod NamesAtBoard
-pub mod NamesShown
-pub mod NamesStill
+pub mod NamesAwaited
+pub mod NamesHeld
+pub mod NamesLeftAtBoard
+pub mod NamesOfWays
+pub mod OwnEntries

@@ -24,25 +24,12 @@ use Rattle.thm_run.specs.Told.{TellsIn}
 
 quietly_fetched : {old new : Seat} → Quietly old new → new.fetched ≡ old.fetched
 quietly_fetched (Quietly.hears seat answered) = refl
-quietly_fetched (Quietly.counts seat sent) = refl
-quietly_fetched (Quietly.calls seat heap call answer none) = refl
-quietly_fetched (Quietly.notes seat elements) = refl
-quietly_fetched (Quietly.reads_names seat names) = refl
-quietly_fetched (Quietly.reads_stats seat heap counted) = refl
-quietly_fetched (Quietly.ends_line seat deed given) = refl
+quietly_fetched _ = refl
 
 handles_fetched : {count who : ℕ} {old new : Seat} {taken given : SegsView} → Handles count who old new taken given
     → new.fetched ≡ old.fetched
 handles_fetched (Handles.looks seat segs) = refl
-handles_fetched (Handles.steps seat segs event core its zero knows denied may) = refl
-handles_fetched (Handles.maps seat segs ended table now core its zero caught_up) = refl
-handles_fetched (Handles.follows seat segs ended table member caught_up) = refl
-handles_fetched (Handles.arms seat segs asked run number its) = refl
-handles_fetched (Handles.claims seat segs) = refl
-handles_fetched (Handles.settles seat segs since now late) = refl
-handles_fetched (Handles.cuts seat segs heap addr run) = refl
-handles_fetched (Handles.attaches seat segs ended after tried) = refl
-handles_fetched (Handles.detaches seat segs told secondary heard) = refl
+handles_fetched _ = refl
 
 mails_fetched : {who : ℕ} {old new : Seat} {step : MailStep} → Mails who old new step → (frame : Frame) → Contains new.fetched frame
     → Contains old.fetched frame ⊎ (step ≡ Fetches (Some frame))

@@ -81,7 +81,7 @@ pub good_given : (who slot : ℕ) (kept : Kept) (slots : Slotted) → IsMove who
 good_given who slot kept slots (within, held, good, adds, later) = good
 
 -- and it is the value in place of which it comes, later on
-later_given : (who slot : ℕ) (kept : Kept) (slots : Slotted) → IsMove who (Gave slot kept) slots → IsLaterKept (slots.value slot) kept
+pub later_given : (who slot : ℕ) (kept : Kept) (slots : Slotted) → IsMove who (Gave slot kept) slots → IsLaterKept (slots.value slot) kept
 later_given who slot kept slots (within, held, good, adds, later) = later
 
 -- so a segment value that is given is one to which that led by calls

@@ -3,7 +3,7 @@
 use Rattle.std.specs.Prelude.{◌≡◌, ℕ, ◌≤◌, List, [], Contains, length, Some, None, slice_get, unwrap_or}
 use Rattle.hp_board.specs.Closing.{AreHeaps, AreLeftSegs, AreOwnedAtLast, KeepCallsOf, KeepsTableOf}
 use Rattle.hp_board.specs.SeatView.{SeatView}
-use Rattle.hp_board.specs.Views.{made_in, own_of}
+use Rattle.hp_board.specs.Views.{made_in, marked_in, own_of}
 use Rattle.hp_board.specs.declared.opening.Opening.{Opening}
 use Rattle.hp_heap.specs.History.{HeapView}
 use Rattle.hp_maps.specs.declared.table.Table.{Table}
@@ -50,7 +50,7 @@ KeptByClose = (workload : Workload) (opening : Opening) (courses : ℕ → List 
 
 -- a participant ends with a table that is tied to its seat's view, by which it is attached as its lines leave it
 pub record EndsAt (workload : Workload) (who : ℕ) (seat : SeatView) (last : Seat) (courses : List Course) (table : Table) : Type 0 where
-  pub tied : IsTiedAs seat.mine.log (own_of seat.mine) seat.mine.joined last.party.joined last.party.maps
+  pub tied : IsTiedAs seat.mine.log (own_of seat.mine) (λ heap. marked_in heap seat.mine) seat.mine.joined last.party.joined last.party.maps
   pub leaves : LeavesTable last.party table
   pub attached : seat.mine.joined ≡ (standing_after (opening_standing workload who) courses).attached
 

@@ -2,4 +2,5 @@ pub mod Adding
 pub mod AtBoard
 pub mod ByClose
 pub mod ByMoves
+pub mod NamesLeft
 pub mod Within

@@ -3,4 +3,4 @@
 
 mod laws;
 
-pub use laws::{board_law, close_law, moves_law};
+pub use laws::{board_law, close_law, moves_law, names_law};

@@ -140,6 +140,14 @@ module _ (who : ℕ) (last : SegsView) where
       asked_above number trace holds does others from log left longer place at
   asked_above _ _ _ (DoesInHolds.reads_stats number heap counted trace holds does) others from log left longer place at =
       asked_above number trace holds does others from log left longer place at
+  asked_above _ _ _ (DoesInHolds.changes_names number change trace holds does) others from log left longer place at =
+      asked_above number trace holds does others from log left longer place at
+  asked_above _ _ _ (DoesInHolds.sees_heap number heap history trace holds does) others from log left longer place at =
+      asked_above number trace holds does others from log left longer place at
+  asked_above _ _ _ (DoesInHolds.plans_range number addr len page plan trace holds does) others from log left longer place at =
+      asked_above number trace holds does others from log left longer place at
+  asked_above _ _ _ (DoesInHolds.maps_chunk number chunk ended trace holds does) others from log left longer place at =
+      asked_above number trace holds does others from log left longer place at
   asked_above _ _ _ (DoesInHolds.catches_up number to caught trace holds does) others from log left longer place at =
       asked_above number trace holds does others from log left longer place at
 

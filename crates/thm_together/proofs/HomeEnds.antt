@@ -1,25 +1,20 @@
 -- What all left who came home is an end of their workload.
-use Rattle.std.proofs.Common.{◌≡◌, ◌∙◌, ◌==◌, ℕ, ◌<◌, ◌≤◌, true, List, length, map, Some, slice_get, refl, ap, sym, subst, arith}
+use Rattle.std.proofs.Common.{◌≡◌, ◌∙◌, ℕ, ◌<◌, ◌≤◌, true, List, length, map, Some, slice_get, refl, ap, sym, subst, arith}
 use Rattle.std.specs.List.{All}
-use Rattle.std.proofs.lemmas.List.Elements.{All-filter}
 use Rattle.std.proofs.lemmas.Option.{slice_get_within}
 use Rattle.hp_heap.specs.History.{HeapView}
 use Rattle.hp_maps.specs.declared.table.Table.{Table}
-use Rattle.hp_script.specs.Built.{IsBuiltAct}
 use Rattle.hp_script.specs.declared.answer.Answer.{Answer}
-use Rattle.hp_script.specs.declared.line.Act.{Act}
-use Rattle.hp_script.specs.declared.line.Act.TheVariants as act
-use Rattle.hp_script.specs.declared.line.Line.{Line}
 use Rattle.hp_script.specs.declared.workload.Workload.{Workload}
 use Rattle.hp_segs.specs.SegsView.{SegsView, is_member}
-use Rattle.hp_segs.proofs.RowTables.TableUse.{at_place}
 use Rattle.hp_proc.specs.Awaits.{AreAwaited}
 use Rattle.hp_proc.specs.Courses.{Standing}
 use Rattle.hp_proc.specs.Doing.{Done}
 use Rattle.hp_proc.specs.Ends.{IsEnd, IsTableOf, KeepsCalls}
 use Rattle.hp_proc.specs.LinesDone.{AreDone, Course, IsNoneUngranted, courses_of, opening_standing, standing_after, trace_of}
 use Rattle.hp_proc.specs.Outcomes.{AreAnsweredSo, IsOfAnAskOfATrace}
-use Rattle.hp_proc.specs.Seen.{AreRefusals, AreSeen, seen_in}
+use Rattle.hp_proc.specs.Handed.{AreOwnFailures}
+use Rattle.hp_proc.specs.Seen.{AreSeen, seen_in}
 use Rattle.thm_run.proofs.InTurnByHolds.CallsInHolds.{calls_by_lines}
 use Rattle.thm_run.proofs.InTurnByHolds.NoneByHolds.{none_by_holds}
 use Rattle.thm_run.proofs.Settings.{seat_at}
@@ -27,16 +22,12 @@ use Rattle.thm_run.proofs.PathSteps.Walked.{get_there}
 use Rattle.thm_run.specs.OwnHolds.{AreDoneInHolds}
 use Rattle.thm_run.specs.Seats.{Seat}
 use Rattle.thm_run.specs.SoFar.{first_segs}
-use Rattle.thm_together.specs.CameHome.{AllCameHome, EndWhereHome}
+use Rattle.thm_together.specs.CameHome.{AllCameHome, EndWhereHome, HaveAwaited}
 use Rattle.thm_together.proofs.AllHome.{path_of}
 use Rattle.thm_together.proofs.HomeHolds.{asks_answered, asks_in_turn, each_on, outcomes_are, seen_by_each}
 use Rattle.thm_together.proofs.HomeSince.{attached_since}
 use Rattle.thm_together.proofs.HomeTables.{its_table}
-use Rattle.thm_together.proofs.HomeWays.{all_courses, answers_are, are_woven, at_line, by_run, lines_declared}
-
--- no act that is built awaits
-no_await : (deed : Act) (other lines : ℕ) → deed ≡ act.Await other lines → IsBuiltAct deed → ⊥
-no_await deed other lines awaits built = let is = subst IsBuiltAct awaits built in cc
+use Rattle.thm_together.proofs.HomeWays.{all_courses, answers_are, are_woven, by_run, lines_declared}
 
 module _ (workload : Workload) (answers : List Answer) (heaps : List HeapView) (segs : SegsView) (tables : List Table)
     (home : AllCameHome workload answers heaps segs tables) where
@@ -53,16 +44,12 @@ module _ (workload : Workload) (answers : List Answer) (heaps : List HeapView) (
   did_is : ◌≡◌ {A = ℕ → List Done} (λ who. trace_of (home.courses who)) (λ who. trace_of (courses_of who courses))
   did_is i who = trace_of (sym (own_is who) i)
 
-  -- in the order of the workload nothing is awaited
+  each_is : ◌≡◌ {A = ℕ → List Course} home.courses (λ who. courses_of who courses)
+  each_is i who = sym (own_is who) i
+
+  -- what was awaited stands first, in the order of the workload too
   awaited_are : AreAwaited courses heaps
-  awaited_are who place other lines course there awaits =
-      absurd (no_await course.line.act other lines awaits (built_at place course there))
-    where
-      built_at : (place : ℕ) (course : Course) → slice_get (courses_of who courses) place ≡ Some course → IsBuiltAct course.line.act
-      built_at place course there =
-          at_place (λ (course : Course). IsBuiltAct course.line.act) (courses_of who courses) place course
-          (All-filter (λ (course : Course). course.line.participant == who) (λ (course : Course). IsBuiltAct course.line.act) courses
-          (at_line (λ (line : Line). IsBuiltAct line.act) workload.lines.items courses lines_are home.built)) there
+  awaited_are = subst (λ (own : ℕ → List Course). HaveAwaited own heaps) each_is home.awaited
 
   done_by : (who : ℕ) → who < workload.participants → AreDone workload (opening_standing workload who) (home.courses who)
   done_by who below =
@@ -133,7 +120,6 @@ module _ (workload : Workload) (answers : List Answer) (heaps : List HeapView) (
         calls = subst (λ did. KeepsCalls did heaps) did_is home.kept.calls;
         segs_sound = ran.segs_sound;
         pools = ran.pools;
-        external = ran.external;
         asks = λ who.
             subst (λ own. AreAnsweredSo segs.log segs.asks who (trace_of own)) (sym (own_is who))
             (asks_answered workload answers heaps segs tables home who);
@@ -146,7 +132,7 @@ module _ (workload : Workload) (answers : List Answer) (heaps : List HeapView) (
         seen = λ who.
             subst (λ own. AreSeen (length segs.log) (seen_in segs.log segs.asks who 1 (trace_of own))) (sym (own_is who))
             (seen_by_each workload answers heaps segs tables home who);
-        refusals = λ who. subst (λ own. AreRefusals segs.log (trace_of own)) (sym (own_is who)) (ran.refusals who);
+        failed = λ who. subst (λ own. AreOwnFailures segs.log (trace_of own)) (sym (own_is who)) (ran.failed who);
         awaited = awaited_are;
         grown = home.kept.grown;
         gone = ran.gone heaps home.kept.calls home.kept.within;

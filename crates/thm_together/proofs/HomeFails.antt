@@ -10,14 +10,14 @@ use Rattle.hp_script.specs.declared.answer.Answer.{Answer}
 use Rattle.hp_script.specs.declared.workload.Workload.{Workload}
 use Rattle.hp_segs.specs.SegsView.{SegsView}
 use Rattle.hp_segs.proofs.RowTables.TableUse.{at_place}
-use Rattle.hp_proc.specs.Courses.{refusals_in}
+use Rattle.hp_proc.specs.Handed.{calls_failed}
 use Rattle.hp_proc.specs.LinesDone.{AreDone, Course, courses_of, opening_standing, trace_of}
 use Rattle.thm_run.proofs.FailuresNamed.Failures.{fails_once}
 use Rattle.thm_run.proofs.FailuresNamed.Refusals.{attached_so, refused_by_reason}
 use Rattle.thm_run.proofs.FailuresNamed.RefusedLines.{places_same, shows_in}
 use Rattle.thm_run.proofs.RunFacts.RunCauses as causes
 use Rattle.thm_run.proofs.Settings.{IsSeatAt, may_fail_stays, seat_at}
-use Rattle.thm_run.specs.EndLaws.{FailsFor, IsRefusedAttach}
+use Rattle.thm_run.specs.EndLaws.{FailsFor, IsRefusedMapping}
 use Rattle.thm_together.specs.CameHome.{AllCameHome}
 use Rattle.thm_together.specs.Failing.{FailsOnceWhereHome, FailsWhereHome, RefusesOnceWhereHome, RefusesWhereHome}
 use Rattle.thm_together.proofs.HomeAsks.{trace_is}
@@ -54,8 +54,8 @@ module _ (workload : Workload) (answers : List Answer) (heaps : List HeapView) (
   own_is : courses_of participant courses ≡ home.courses participant
   own_is = (are_woven workload answers heaps segs tables home).own participant
 
-  -- who was refused an attach is declared
-  declared : (place : ℕ) (course : Course) → slice_get courses place ≡ Some course → IsRefusedAttach participant call course
+  -- who was refused a mapping in a line is declared
+  declared : (place : ℕ) (course : Course) → slice_get courses place ≡ Some course → IsRefusedMapping participant call course
       → participant < workload.participants
   declared place course there refused =
       subst (λ who. who < workload.participants) refused.who
@@ -84,14 +84,14 @@ refuses_where_home workload answers heaps segs tables home place course particip
     let early = its_first workload answers heaps segs tables home participant call below in
     let late = its_last workload answers heaps segs tables home participant call below in
     let courses : List Course = all_courses workload answers heaps segs tables home in
-    let shown : Contains (refusals_in (trace_of (courses_of participant courses))) call =
+    let shown : Contains (calls_failed (trace_of (courses_of participant courses))) call =
     shows_in workload participant call (opening_standing workload participant) courses
     (done workload answers heaps segs tables home participant call below) place course there refused in
     let may =
     refused_by_reason workload.participants workload.absent workload.pools.items (start workload answers heaps segs tables home)
     (then workload answers heaps segs tables home) (opens workload answers heaps segs tables home)
     (run workload answers heaps segs tables home).1 participant late.seat late.there call
-    (subst (λ trace. Contains (refusals_in trace) call)
+    (subst (λ trace. Contains (calls_failed trace) call)
     (sym (its_trace workload answers heaps segs tables home participant call below)) shown) in
     record {
       seat = early.seat;
@@ -110,5 +110,5 @@ refuses_once_where_home workload answers heaps segs tables home place other cour
     (run workload answers heaps segs tables home).1 participant late.seat late.there).rising in
     places_same workload participant call (opening_standing workload participant) (all_courses workload answers heaps segs tables home)
     (done workload answers heaps segs tables home participant call below)
-    (subst (λ trace. IsStrictlyIncreasing (refusals_in trace)) (its_trace workload answers heaps segs tables home participant call below) rising)
+    (subst (λ trace. IsStrictlyIncreasing (calls_failed trace)) (its_trace workload answers heaps segs tables home participant call below) rising)
     place other course second here there refused too

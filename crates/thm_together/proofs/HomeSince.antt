@@ -43,15 +43,11 @@ since_same most old new same is = record {
 
 pub quietly_since : {old new : Seat} (most : ℕ) → Quietly old new → IsSince most old → IsSince most new
 quietly_since most (Quietly.hears seat answered) is = since_same most _ _ (record { joined = refl; records = refl; number = refl }) is
-quietly_since most (Quietly.counts seat sent) is = since_same most _ _ (record { joined = refl; records = refl; number = refl }) is
-quietly_since most (Quietly.calls seat heap call answer none) is =
-    since_same most _ _ (record { joined = refl; records = refl; number = refl }) is
-quietly_since most (Quietly.notes seat elements) is = since_same most _ _ (record { joined = refl; records = refl; number = refl }) is
-quietly_since most (Quietly.reads_names seat names) is =
-    since_same most _ _ (record { joined = refl; records = refl; number = refl }) is
-quietly_since most (Quietly.reads_stats seat heap counted) is =
-    since_same most _ _ (record { joined = refl; records = refl; number = refl }) is
-quietly_since most (Quietly.ends_line seat deed given) is = since_same most _ _ (record { joined = refl; records = refl; number = refl }) is
+quietly_since most (Quietly.maps_chunk seat chunk maps ended its) is =
+    since_same most _ _ (record { joined = refl; records = refl; number = its.others.number }) is
+quietly_since most (Quietly.leaves_chunk seat chunk maps its) is =
+    since_same most _ _ (record { joined = refl; records = refl; number = its.others.number }) is
+quietly_since most _ is = since_same most _ _ (record { joined = refl; records = refl; number = refl }) is
 
 pub mails_since : {who : ℕ} {old new : Seat} {step : MailStep} (most : ℕ) → Mails who old new step → IsSince most old → IsSince most new
 mails_since most (Mails.notes seat note) is = is
@@ -123,7 +119,8 @@ handles_since (Handles.settles seat segs since now late) is = is
 handles_since (Handles.cuts seat segs heap addr run) is =
     since_same (length segs.log) _ _ (record { joined = refl; records = refl; number = refl }) is
 handles_since (Handles.attaches seat segs ended after tried) is = tried_since segs.log seat after ended tried _ is
-handles_since (Handles.detaches seat segs told secondary heard) is = record { taken = λ joined. absurd cc; within = is.within }
+handles_since (Handles.moves_ranges seat segs ranges moves) is = is
+handles_since (Handles.detaches seat segs told secondary none heard) is = record { taken = λ joined. absurd cc; within = is.within }
 
 -- the log that is taken has no fewer records from hold to hold
 abbrev pub AreRising : ℕ → List (Hold SegsView) → Type 0

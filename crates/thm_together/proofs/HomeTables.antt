@@ -1,8 +1,11 @@
 -- The table that a participant leaves who came home.
-use Rattle.std.proofs.Common.{◌≡◌, ◌∙◌, ℕ, ◌<◌, ◌≤◌, Bool, true, false, List, [], length, get_or, ap, sym, subst, arith}
+use Rattle.std.proofs.Common.{◌≡◌, ◌∙◌, ℕ, ◌<◌, ◌≤◌, Bool, true, false, List, [], ◌∷◌, length, get_or, refl, sym, subst, arith}
+use Rattle.std.specs.Prelude.{Contains}
+use Rattle.hp_base.specs.declared.chunk.Chunk.{Chunk}
 use Rattle.hp_base.specs.declared.row.Row.{Row}
 use Rattle.hp_hall.proofs.StandingFacts.StandingLists.{found_in}
 use Rattle.hp_maps.specs.Catching.{Lags}
+use Rattle.hp_heap.proofs.AllocFacts.ChoiceLaw.{Contains-here, Contains-none}
 use Rattle.hp_maps.specs.MapsView.{chunk_rows, table_in}
 use Rattle.hp_maps.specs.declared.table.Table.{Table}
 use Rattle.hp_script.specs.declared.workload.Workload.{Workload}
@@ -11,7 +14,7 @@ use Rattle.hp_segs.specs.Sound.{IsSound}
 use Rattle.hp_segs.specs.SoundAsks.{grants}
 use Rattle.hp_segs.specs.declared.row_state.Segment.{Segment}
 use Rattle.hp_segs.proofs.GrowthSteps.GrantedRows.{row_granted}
-use Rattle.hp_serve.specs.Tied.{HasTable, nothing_yet, part_of}
+use Rattle.hp_serve.specs.Tied.{HasChunks, HasTable, nothing_yet, part_of}
 use Rattle.hp_serve.proofs.RowsKnown.{has_lags}
 use Rattle.hp_proc.specs.Ends.{IsMembersTable, IsTableOf}
 use Rattle.hp_proc.specs.LinesDone.{Course, opening_standing, standing_after}
@@ -19,6 +22,13 @@ use Rattle.hp_proc.specs.Seen.{HasTakenIn}
 use Rattle.thm_run.proofs.HallFacts.HallTables.{all_from_contained, granted_so, if_there, lags_further, no_rows}
 use Rattle.thm_run.specs.Seats.{Seat}
 use Rattle.thm_together.specs.CameHome.{LeavesItsTable}
+
+-- who has attached no chunk has no row of one
+none_marked : (marked : ℕ → List Chunk) (rows : List Row) → HasChunks marked rows → ((heap : ℕ) → marked heap ≡ []) → rows ≡ []
+none_marked marked [] has none = refl
+none_marked marked (row ∷ rows) has none =
+    let one = has.only row (Contains-here row rows) in
+    absurd (Contains-none one.1 (subst (λ (chunks : List Chunk). Contains chunks one.1) (none one.0) one.3))
 
 module _ (workload : Workload) (who : ℕ) (segs : SegsView) (sound : IsSound segs) (last : Seat) (courses : List Course) (table : Table)
     (its : LeavesItsTable workload who segs last courses table)
@@ -36,8 +46,8 @@ module _ (workload : Workload) (who : ℕ) (segs : SegsView) (sound : IsSound se
         let found = found_in (grants generation) segs.asks (row_granted segs sound place segment within settled) in
         its.taken_in joined found.element generation found.among (granted_so generation found.element.outcome found.passes)
 
-    its_own : HasTable segs.log its.own last.party.maps
-    its_own = subst (λ (joined : Bool). HasTable segs.log (part_of joined its.own) last.party.maps) joined its.kept
+    its_own : HasTable segs.log its.own its.marked last.party.maps
+    its_own = subst (λ (joined : Bool). HasTable segs.log (part_of joined its.own) its.marked last.party.maps) joined its.kept
 
     members_table : IsMembersTable segs who records table
     members_table =
@@ -46,22 +56,23 @@ module _ (workload : Workload) (who : ℕ) (segs : SegsView) (sound : IsSound se
           lags = subst (λ (rows : List Row). Lags segs.log table.number (length segs.log) (table_in rows)) (sym its.leaves.rows)
               (subst (λ (number : ℕ). Lags segs.log number (length segs.log) (table_in last.party.maps.rows)) (sym number_is)
               (lags_further segs.log its.own.number its.own.unmapped (length segs.log) (table_in last.party.maps.rows) its_own.seen
-              (has_lags segs.log its.own last.party.maps its_own)));
+              (has_lags segs.log its.own its.marked last.party.maps its_own)));
           since = omega (arith, its.leaves.number, since joined);
           own = all_from_contained (HasTakenIn who table.number) segs.asks (λ entry has mine.
               if_there (λ (generation : ℕ). generation ≤ table.number) (granted_by entry.outcome) (λ generation grant.
               omega (arith, number_is, its.taken_in joined entry generation has grant)));
           agreed = λ place segment within settled. omega (arith, number_is, row_taken_in place segment within settled);
-          no_other = ap chunk_rows its.leaves.rows ∙ its_own.chunks;
         }
 
   -- who is out has no table
   none_left : last.party.joined ≡ false → (table.number ≡ 0) × (table.rows.items ≡ [])
   none_left out =
-      let none : HasTable segs.log nothing_yet last.party.maps =
-      subst (λ (joined : Bool). HasTable segs.log (part_of joined its.own) last.party.maps) out its.kept in (
+      let none : HasTable segs.log nothing_yet its.marked last.party.maps =
+      subst (λ (joined : Bool). HasTable segs.log (part_of joined its.own) its.marked last.party.maps) out its.kept in (
         its.leaves.number ∙ none.number,
-        its.leaves.rows ∙ no_rows segs.log last.party.maps.rows (has_lags segs.log nothing_yet last.party.maps none) none.chunks,
+        its.leaves.rows
+            ∙ no_rows segs.log last.party.maps.rows (has_lags segs.log nothing_yet its.marked last.party.maps none)
+            (none_marked its.marked (chunk_rows last.party.maps.rows) none.chunks (its.away out)),
       )
 
   table_by : (joined : Bool) → last.party.joined ≡ joined → IsTableOf segs who records joined table

@@ -11,13 +11,11 @@ use Rattle.hp_heap.specs.History.{HeapView}
 use Rattle.hp_log.specs.declared.log_record.LogRecord.{LogRecord}
 use Rattle.hp_maps.specs.Bytes.{AreTold}
 use Rattle.hp_maps.specs.Catching.{Lags}
-use Rattle.hp_maps.specs.Knowing.{AllKnow, Knows}
-use Rattle.hp_maps.specs.MapsView.{chunk_rows, table_in}
+use Rattle.hp_maps.specs.MapsView.{table_in}
 use Rattle.hp_maps.specs.declared.table.Table.{Table}
 use Rattle.hp_proc.specs.Courses.{Standing, numbered_in}
 use Rattle.hp_proc.specs.Doing.{Done}
-use Rattle.hp_proc.specs.LinesDone.{Course, trace_of}
-use Rattle.hp_proc.specs.LinesLeft.{LinesLeft, opening_left}
+use Rattle.hp_proc.specs.LinesDone.{Course, opening_standing, trace_of}
 use Rattle.hp_proc.specs.Outcomes.{IsOfATrace, IsOfAnAskOfATrace}
 use Rattle.hp_proc.specs.WatchedBytes.{AreWatchersOf, HasLaterGrant, IsRegistered}
 use Rattle.hp_script.specs.declared.answer.Answer.{Answer}
@@ -34,7 +32,6 @@ use Rattle.hp_weave.specs.Holds.{Hold}
 use Rattle.thm_run.proofs.InTurnByHolds.AskedInHolds.{IsAskAt}
 use Rattle.thm_run.proofs.InTurnByHolds.HoldsLeft.{AreLeft}
 use Rattle.thm_run.proofs.InTurnByHolds.TurnsByHolds.{ask_of_trace}
-use Rattle.thm_run.proofs.Registrations.RegisteredOn.{standing_left}
 use Rattle.thm_run.proofs.SeatFacts.FirstSegs.{member_first, present_declared}
 use Rattle.thm_run.proofs.SeenAndShown.SeenTraces.{answered_from}
 use Rattle.thm_run.proofs.Settings.{seat_at}
@@ -67,9 +64,11 @@ first_known workload who log asks first last courses steps below few went =
         lags = subst (λ (rows : List Row). Lags begin first.party.maps.number (length begin) (table_in rows)) (sym its.rows)
             (subst (λ (number : ℕ). Lags begin number (length begin) []) (sym its.number)
             (record { reached = 0; from = omega arith; up_to = omega arith; left = refl }));
-        chunks = ap chunk_rows its.rows;
-        out = λ out. its.rows;
-        know = subst (AllKnow first.party.maps.rows) (sym its.listeners) (All-nil (Knows first.party.maps.rows));
+        out = λ out. ap table_in its.rows;
+        know =
+            subst (All (λ (listener : Listener). AreTold listener.events (table_in listener.since) (table_in first.party.maps.rows)))
+            (sym its.listeners)
+            (All-nil (λ (listener : Listener). AreTold listener.events (table_in listener.since) (table_in first.party.maps.rows)));
       };
       since = record {
         taken = λ joined. omega (arith, none);
@@ -87,7 +86,7 @@ module _ (workload : Workload) (answers : List Answer) (heaps : List HeapView) (
     (home : AllCameHome workload answers heaps segs tables) where
   -- what a later ask was granted is a later record
   module _ (who : ℕ) (seat : Seat) (log : List LogRecord) (listener : Listener)
-      (is : IsRegisteredAt who (opening_left workload who) segs log seat (home.courses who) listener.name listener.since) where
+      (is : IsRegisteredAt who (opening_standing workload who) segs log seat (home.courses who) listener.name listener.since) where
     abbrev made : ℕ
     made = length (numbered_in (trace_of (take is.place (home.courses who))))
 
@@ -119,8 +118,8 @@ module _ (workload : Workload) (answers : List Answer) (heaps : List HeapView) (
     abbrev went : WentItsWay workload who segs.log segs.asks old new (home.courses who) (home.steps who)
     went = home.went who old new early late
 
-    abbrev opening : LinesLeft
-    opening = opening_left workload who
+    abbrev opening : Standing
+    opening = opening_standing workload who
 
     abbrev holds : List (Hold SegsView)
     holds = holds_from who None (home.steps who)
@@ -182,8 +181,7 @@ module _ (workload : Workload) (answers : List Answer) (heaps : List HeapView) (
     its_watchers = record {
       names_are =
           so_far.known.watched.names
-          ∙ ap (λ (standing : Standing). standing.watchers) so_far.standing
-          ∙ ap (λ (standing : Standing). standing.watchers) (sym (standing_left opening (home.courses who)));
+          ∙ ap (λ (standing : Standing). standing.watchers) so_far.standing;
       registered =
           All-weaker
           (λ (listener : Listener). IsRegisteredAt who opening segs so_far.log new (home.courses who) listener.name listener.since)
@@ -202,9 +200,9 @@ watched_where_home log_is_placed workload answers heaps segs tables home watcher
       let below : who < workload.participants = omega (arith, within, told.many, home.count, home.begun) in
       let early = seat_at home.first who (omega (arith, below, home.begun)) in
       let late = seat_at home.last who (omega (arith, below, home.begun, home.count)) in
-      subst (λ (own : List Course). AreWatchersOf who (opening_left workload who) segs own table listeners)
+      subst (λ (own : List Course). AreWatchersOf who (opening_standing workload who) segs own table listeners)
       (sym ((are_woven workload answers heaps segs tables home).own who))
-      (subst (AreWatchersOf who (opening_left workload who) segs (home.courses who) table)
+      (subst (AreWatchersOf who (opening_standing workload who) segs (home.courses who) table)
       (sym (told.are who late.seat listeners late.there heard))
       (its_watchers workload answers heaps segs tables home log_is_placed who below early.seat late.seat early.there late.there table at));
 }

@@ -59,9 +59,9 @@ serves_on_its_way count first doer after courses steps more moved on served =
     }
 
 pub line_on_its_way : DoesALineOnItsWay
-line_on_its_way count first doer mid courses course steps more held notes few on acts once leaves adds =
+line_on_its_way count first doer mid courses course steps more held notes few on acts once names awaited leaves adds =
     let late = its_deadline count first doer courses steps on in
-    let comes = line_in_seat count held doer mid course more on.seat acts once (omega (arith, few, late)) on.party on.standing leaves in
+    let comes = line_in_seat count held doer mid course more on.seat acts once names awaited (omega (arith, few, late)) on.party on.standing leaves in
     let is : IsLineOf count first.party.me on.seat comes.0 course more =
     subst (λ who. IsLineOf count who on.seat comes.0 course more) (its_me count first doer courses steps on) comes.3 in
     let line : WentByLines count first.party.me first comes.0 (courses ++ course ∷ []) (steps ++ more) =

@@ -20,13 +20,10 @@ one_more lines line =
 quietly_lines : {old new : Seat} → Quietly old new → length old.lines ≤ length new.lines
 quietly_lines (Quietly.hears seat answered) = omega arith
 quietly_lines (Quietly.counts seat sent) = omega arith
-quietly_lines (Quietly.calls seat heap call answer none) = omega arith
-quietly_lines (Quietly.notes seat elements) = omega arith
-quietly_lines (Quietly.reads_names seat names) = omega arith
-quietly_lines (Quietly.reads_stats seat heap counted) = omega arith
 quietly_lines (Quietly.ends_line seat deed given) =
     let more = one_more seat.lines (line_ended deed given seat) in
     omega (arith, more)
+quietly_lines _ = omega arith
 
 mails_lines : {who : ℕ} {old new : Seat} {step : MailStep} → Mails who old new step → length old.lines ≤ length new.lines
 mails_lines (Mails.notes seat note) = omega arith
@@ -47,7 +44,8 @@ handles_lines (Handles.claims seat segs) = omega arith
 handles_lines (Handles.settles seat segs since now late) = omega arith
 handles_lines (Handles.cuts seat segs heap addr run) = omega arith
 handles_lines (Handles.attaches seat segs ended after tried) = omega arith
-handles_lines (Handles.detaches seat segs told secondary heard) = omega arith
+handles_lines (Handles.moves_ranges seat segs ranges moves) = omega arith
+handles_lines (Handles.detaches seat segs told secondary none heard) = omega arith
 
 path_lines : {count who : ℕ} {old new : Seat} {steps : List MailStep} → SeatTrace count who old new steps
     → length old.lines ≤ length new.lines
@@ -62,13 +60,10 @@ path_lines (SeatTrace.handles old mid new taken given held steps did path) = ome
 quietly_hears : {old new : Seat} → Quietly old new → length new.lines ≤ length old.lines → HearsOn old.party new.party
 quietly_hears (Quietly.hears seat answered) none = record { names = refl; since = refl }
 quietly_hears (Quietly.counts seat sent) none = record { names = refl; since = refl }
-quietly_hears (Quietly.calls seat heap call answer uncut) none = hears_same seat.party
-quietly_hears (Quietly.notes seat elements) none = hears_same seat.party
-quietly_hears (Quietly.reads_names seat names) none = hears_same seat.party
-quietly_hears (Quietly.reads_stats seat heap counted) none = hears_same seat.party
 quietly_hears (Quietly.ends_line seat deed given) none =
     let more = one_more seat.lines (line_ended deed given seat) in
     absurd (omega (arith, more, none))
+quietly_hears _ none = record { names = refl; since = refl }
 
 mails_hear : {who : ℕ} {old new : Seat} {step : MailStep} → Mails who old new step → HearsOn old.party new.party
 mails_hear (Mails.notes seat note) = hears_same seat.party
@@ -93,7 +88,8 @@ handles_hear (Handles.cuts seat segs heap addr run) = hears_same seat.party
 handles_hear (Handles.attaches seat segs ended after tried) =
     let heard = hears_caught segs.log ended tried.maps seat.party in
     subst (HearsOn seat.party) (sym tried.after_is) (record { names = heard.names; since = heard.since })
-handles_hear (Handles.detaches seat segs told secondary heard) = record {
+handles_hear (Handles.moves_ranges seat segs ranges moves) = hears_same seat.party
+handles_hear (Handles.detaches seat segs told secondary none heard) = record {
   names = hears_rows seat.party.maps.rows seat.party.listeners told heard;
   since = ap (map (λ (listener : Listener). listener.since)) heard.told ∙ since_all (events_of kind.Free heard.rising) seat.party.listeners;
 }

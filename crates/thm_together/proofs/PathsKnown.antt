@@ -103,20 +103,18 @@ known_more old new seat has is = record {
 quietly_in : {old new : Seat} → Quietly old new → IsIn old → IsIn new
 quietly_in (Quietly.hears seat answered) is = is
 quietly_in (Quietly.counts seat sent) is = is
-quietly_in (Quietly.calls seat heap call answer none) is = is
-quietly_in (Quietly.notes seat elements) is = is
-quietly_in (Quietly.reads_names seat names) is = is
-quietly_in (Quietly.reads_stats seat heap counted) is = is
-quietly_in (Quietly.ends_line seat deed given) is = is
+quietly_in _ is = is
 
 quietly_reaches : {old new : Seat} (low : ℕ) → Quietly old new → ReachesOn low old new
 quietly_reaches low (Quietly.hears seat answered) number few was joined = was joined
 quietly_reaches low (Quietly.counts seat sent) number few was joined = was joined
-quietly_reaches low (Quietly.calls seat heap call answer none) number few was joined = was joined
-quietly_reaches low (Quietly.notes seat elements) number few was joined = was joined
-quietly_reaches low (Quietly.reads_names seat names) number few was joined = was joined
-quietly_reaches low (Quietly.reads_stats seat heap counted) number few was joined = was joined
-quietly_reaches low (Quietly.ends_line seat deed given) number few was joined = was joined
+quietly_reaches low (Quietly.maps_chunk seat chunk maps ended its) number few was joined =
+    let below = was joined in
+    omega (arith, its.others.number, below)
+quietly_reaches low (Quietly.leaves_chunk seat chunk maps its) number few was joined =
+    let below = was joined in
+    omega (arith, its.others.number, below)
+quietly_reaches low _ number few was joined = was joined
 
 mails_in : {who : ℕ} {old new : Seat} {step : MailStep} → Mails who old new step → IsIn old → IsIn new
 mails_in (Mails.notes seat note) is = is
@@ -193,7 +191,8 @@ handles_in (Handles.claims seat segs) is attached = is attached
 handles_in (Handles.settles seat segs since now late) is attached = is attached
 handles_in (Handles.cuts seat segs heap addr run) is attached = is attached
 handles_in (Handles.attaches seat segs ended after tried) is attached = tried_in segs.log seat after ended tried is attached
-handles_in (Handles.detaches seat segs told secondary heard) is attached = absurd cc
+handles_in (Handles.moves_ranges seat segs ranges moves) is attached = is attached
+handles_in (Handles.detaches seat segs told secondary none heard) is attached = absurd cc
 
 handles_reach : {count who : ℕ} {old new : Seat} {taken given : SegsView} → Handles count who old new taken given
     → ReachesOn (length taken.log) old new
@@ -209,7 +208,8 @@ handles_reach (Handles.settles seat segs since now late) number few was joined =
 handles_reach (Handles.cuts seat segs heap addr run) number few was joined = was joined
 handles_reach (Handles.attaches seat segs ended after tried) number few was joined =
     tried_reaches segs.log seat.party after ended tried number few joined
-handles_reach (Handles.detaches seat segs told secondary heard) number few was joined = absurd cc
+handles_reach (Handles.moves_ranges seat segs ranges moves) number few was joined = was joined
+handles_reach (Handles.detaches seat segs told secondary none heard) number few was joined = absurd cc
 
 -- A PATH
 

@@ -9,11 +9,10 @@ use Rattle.hp_log.specs.declared.log_record.LogRecord.{LogRecord}
 use Rattle.hp_maps.proofs.ReadyLemmas.{lags_behind_more}
 use Rattle.hp_maps.specs.Catching.{Lags}
 use Rattle.hp_maps.specs.MapsView.{table_in}
-use Rattle.hp_proc.specs.Courses.{numbered_in}
+use Rattle.hp_proc.specs.Courses.{Standing, numbered_in}
 use Rattle.hp_proc.specs.Doing.{Done}
 use Rattle.hp_proc.specs.Doing.Done.{Asked}
-use Rattle.hp_proc.specs.LinesDone.{Course, trace_of}
-use Rattle.hp_proc.specs.LinesLeft.{LinesLeft, left_by}
+use Rattle.hp_proc.specs.LinesDone.{Course, standing_after, trace_of}
 use Rattle.hp_proc.specs.WatchedBytes.{IsUnwatch}
 use Rattle.hp_script.specs.Part.{Part}
 use Rattle.hp_script.specs.declared.answer.Answer.TheVariants as answer
@@ -35,7 +34,7 @@ use Rattle.thm_together.proofs.PathsKnown.{ReachesOn, records_longer}
 -- A watcher of that name, whose first table has these rows, was registered by one of these lines, and by none unregistered since: by a log that
 -- the participant has seen that table lags behind no more than the records that were there; it has taken in what was there when the participant
 -- had attached last, and no more than the participant's table has by now; and what later lines ask for is asked above those records.
-pub record IsRegisteredAt (who : ℕ) (opening : LinesLeft) (last : SegsView) (log : List LogRecord) (seat : Seat) (courses : List Course)
+pub record IsRegisteredAt (who : ℕ) (opening : Standing) (last : SegsView) (log : List LogRecord) (seat : Seat) (courses : List Course)
     (text : List ℕ) (rows : List Row) : Type 0 where
   pub place : ℕ
   pub course : Course
@@ -50,7 +49,7 @@ pub record IsRegisteredAt (who : ℕ) (opening : LinesLeft) (last : SegsView) (l
   pub within : seen ≤ length log
   pub taken : number ≤ length log
   pub lags : Lags log number seen (table_in rows)
-  pub since : (left_by opening (take place courses)).standing.records ≤ number
+  pub since : (standing_after opening (take place courses)).records ≤ number
   pub reached : seat.party.joined ≡ true → number ≤ seat.party.maps.number
   pub above : (index : ℕ) → length (numbered_in (trace_of (take place courses))) ≤ index → IsAskAt (numbered_in (trace_of courses)) index
       → IsAskedAbove who last seen (1 + index)
@@ -62,7 +61,7 @@ lags_on old new number seen rows has within lags =
     subst (λ (log : List LogRecord). Lags log number seen (table_in rows)) (sym has.is)
     (lags_behind_more old has.more number seen seen (table_in rows) within (omega arith) lags)
 
-module _ (who : ℕ) (opening : LinesLeft) (last : SegsView) (log more : List LogRecord) (old new : Seat) (courses : List Course)
+module _ (who : ℕ) (opening : Standing) (last : SegsView) (log more : List LogRecord) (old new : Seat) (courses : List Course)
     (has : HasRecords log more) (reaches : ReachesOn (length log) old new) where
   -- beside its lines
   pub stays_beside : (text : List ℕ) (rows : List Row) → IsRegisteredAt who opening last log old courses text rows
@@ -149,7 +148,7 @@ module _ (who : ℕ) (opening : LinesLeft) (last : SegsView) (log more : List Lo
           within = omega (arith, is.within, few);
           taken = omega (arith, is.taken, few);
           lags = lags_on log more is.number is.seen rows has is.within is.lags;
-          since = subst (λ (first : List Course). (left_by opening first).standing.records ≤ is.number) (sym front) is.since;
+          since = subst (λ (first : List Course). (standing_after opening first).records ≤ is.number) (sym front) is.since;
           reached = reaches is.number is.taken is.reached;
           above = λ index beyond at.
               above_on (length (numbered_in (trace_of (take is.place courses)))) is.seen is.within is.above index
@@ -161,10 +160,10 @@ module _ (who : ℕ) (opening : LinesLeft) (last : SegsView) (log more : List Lo
         only (suc k) other here = cc
 
 -- a watcher that the last line registers, which did nothing besides
-pub newly_at : (who : ℕ) (opening : LinesLeft) (last : SegsView) (log : List LogRecord) (seat : Seat) (courses : List Course) (one : Course)
+pub newly_at : (who : ℕ) (opening : Standing) (last : SegsView) (log : List LogRecord) (seat : Seat) (courses : List Course) (one : Course)
     (name : Part) (rows : List Row) → one.line.act ≡ act.Watch name → one.answer ≡ answer.Done → one.trace ≡ []
     → Lags log seat.party.maps.number (length log) (table_in rows) → seat.party.maps.number ≤ length log
-    → (left_by opening courses).standing.records ≤ seat.party.maps.number
+    → (standing_after opening courses).records ≤ seat.party.maps.number
     → IsRegisteredAt who opening last log seat (courses ++ one ∷ []) name.text rows
 newly_at who opening last log seat courses one name rows watches answered nothing lags taken records =
     let front : take (length courses) (courses ++ one ∷ []) ≡ courses =
@@ -188,7 +187,7 @@ newly_at who opening last log seat courses one name rows watches answered nothin
       within = omega arith;
       taken = taken;
       lags = lags;
-      since = subst (λ (first : List Course). (left_by opening first).standing.records ≤ seat.party.maps.number) (sym front) records;
+      since = subst (λ (first : List Course). (standing_after opening first).records ≤ seat.party.maps.number) (sym front) records;
       reached = λ joined. omega arith;
       above = λ index beyond at.
           let within = slice_get_within (numbered_in (trace_of (courses ++ one ∷ []))) index (Asked at.asked at.run) at.there in

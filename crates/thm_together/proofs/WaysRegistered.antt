@@ -11,9 +11,8 @@ use Rattle.hp_maps.specs.Catching.{Lags}
 use Rattle.hp_maps.specs.MapsView.{table_in}
 use Rattle.hp_proc.specs.Courses.{Standing, after_line, attached_after, numbered_in, records_after}
 use Rattle.hp_proc.specs.Doing.{Doing, Leads}
-use Rattle.hp_proc.specs.Lines.{doing_of}
+use Rattle.hp_proc.specs.LineTrees.{doing_of}
 use Rattle.hp_proc.specs.LinesDone.{AreDone, Course, IsDone, standing_after, trace_of}
-use Rattle.hp_proc.specs.LinesLeft.{LinesLeft, left_by}
 use Rattle.hp_script.specs.Part.{Part}
 use Rattle.hp_script.specs.declared.answer.Answer.{Answer}
 use Rattle.hp_script.specs.declared.answer.Answer.TheVariants as answer
@@ -32,7 +31,7 @@ use Rattle.thm_run.proofs.InTurnByHolds.HoldsOfPaths.{holds_then, none_at_all}
 use Rattle.thm_run.proofs.InTurnByHolds.LinesInHolds.{growths_went, way_by_lines, went_least}
 use Rattle.thm_run.proofs.LineSteps.LineMore.{trace_more}
 use Rattle.thm_run.proofs.Registrations.KeptWatchers.{acts_hears, heard_all}
-use Rattle.thm_run.proofs.Registrations.RegisteredOn.{line_ends, standing_left, was_attached, watch_does_nothing}
+use Rattle.thm_run.proofs.Registrations.RegisteredOn.{line_ends, was_attached, watch_does_nothing}
 use Rattle.thm_run.proofs.SeenAndShown.SeenTraces.{AreAnsweredFrom, behind_answered, front_answered}
 use Rattle.thm_run.proofs.TracesTold.ToldNumbers.{long}
 use Rattle.thm_run.specs.Apart.{holds_from}
@@ -63,14 +62,14 @@ done_before workload standing (one ∷ courses) course done =
 -- A LINE THAT REGISTERS
 
 -- what is known of a line of a participant once it has ended, by the log that was seen then
-record IsLineKnown (workload : Workload) (count who : ℕ) (opening : LinesLeft) (log : List LogRecord) (old new : Seat) (courses : List Course)
+record IsLineKnown (workload : Workload) (count who : ℕ) (opening : Standing) (log : List LogRecord) (old new : Seat) (courses : List Course)
     (course : Course) (steps : List MailStep) : Type 0 where
   is : IsLineOf count who old new course steps
-  done : IsDone workload (standing_after opening.standing courses) course
-  standing : old.standing ≡ standing_after opening.standing courses
+  done : IsDone workload (standing_after opening courses) course
+  standing : old.standing ≡ standing_after opening courses
   known : IsKnown log new
 
-module _ (workload : Workload) (count who : ℕ) (opening : LinesLeft) (last : SegsView) (log : List LogRecord) (old new : Seat)
+module _ (workload : Workload) (count who : ℕ) (opening : Standing) (last : SegsView) (log : List LogRecord) (old new : Seat)
     (courses : List Course) (course : Course) (steps : List MailStep)
     (line : IsLineKnown workload count who opening log old new courses course steps) (name : Part)
     (watches : course.line.act ≡ act.Watch name) (answered : course.answer ≡ answer.Done) where
@@ -90,14 +89,13 @@ module _ (workload : Workload) (count who : ℕ) (opening : LinesLeft) (last : S
       ∙ was_attached course.line name line.done.facts course.trace leads)
 
   -- its table has taken in what was there when the participant had attached last
-  records : (left_by opening courses).standing.records ≤ new.party.maps.number
+  records : (standing_after opening courses).records ≤ new.party.maps.number
   records =
       let taken = line.known.since.taken joined in
-      let same : new.standing.records ≡ (left_by opening courses).standing.records =
+      let same : new.standing.records ≡ (standing_after opening courses).records =
       ap (λ (standing : Standing). standing.records) line.is.left
       ∙ ap (λ (deed : Act). records_after deed course.answer old.standing.records) watches
-      ∙ ap (λ (standing : Standing). standing.records) line.standing
-      ∙ ap (λ (standing : Standing). standing.records) (sym (standing_left opening courses)) in
+      ∙ ap (λ (standing : Standing). standing.records) line.standing in
       omega (arith, taken, same)
 
   newest : IsRegisteredAt who opening last log new (courses ++ course ∷ []) name.text line.is.mid.party.maps.rows
@@ -109,7 +107,7 @@ module _ (workload : Workload) (count who : ℕ) (opening : LinesLeft) (last : S
 
 -- A WAY
 
-module _ (who : ℕ) (last : SegsView) (opening : LinesLeft) where
+module _ (who : ℕ) (last : SegsView) (opening : Standing) where
   abbrev AreAt : List LogRecord → Seat → List Course → List Listener → Type 0
   AreAt log seat courses listeners =
       All (λ (listener : Listener). IsRegisteredAt who opening last log seat courses listener.name listener.since) listeners
@@ -122,11 +120,11 @@ module _ (who : ℕ) (last : SegsView) (opening : LinesLeft) where
     pub log : List LogRecord
     pub longer : AreLonger log others last.log
     pub known : IsKnown log seat
-    pub standing : seat.standing ≡ standing_after opening.standing courses
+    pub standing : seat.standing ≡ standing_after opening courses
     pub registered : AreAt log seat courses seat.party.listeners
 
 module _ (log_is_placed : LogIsPlaced) (workload : Workload) (count who : ℕ) (last : SegsView) (few : who < MAX_PARTICIPANTS)
-    (opening : LinesLeft) where
+    (opening : Standing) where
   -- beside its lines
   beside_registered : (others : List (Hold SegsView)) (log : List LogRecord) (old new : Seat) (courses : List Course)
       → HearsOn old.party new.party → (on : IsKnownOn others last.log log old new) → AreAt who last opening log old courses old.party.listeners
@@ -167,9 +165,9 @@ module _ (log_is_placed : LogIsPlaced) (workload : Workload) (count who : ℕ) (
 
   -- so it is along a way from a seat that has no watchers
   pub way_registered : {first now : Seat} {courses : List Course} {steps : List MailStep} → WentByLines count who first now courses steps
-      → (begin : List LogRecord) → first.standing ≡ opening.standing → first.party.listeners ≡ [] → IsKnown begin first
+      → (begin : List LogRecord) → first.standing ≡ opening → first.party.listeners ≡ [] → IsKnown begin first
       → now.party.asked ≤ length (numbered_in (trace_of courses)) → AreAnsweredFrom last.log last.asks who 1 (trace_of courses)
-      → AreDone workload opening.standing courses → (more : List MailStep) → NoneElseGrowsAlong who None (steps ++ more)
+      → AreDone workload opening courses → (more : List MailStep) → NoneElseGrowsAlong who None (steps ++ more)
       → (others : List (Hold SegsView)) (from : SegsView) → AreLeft who last (holds_from who None steps ++ others) from
       → IsAnswered who from → AreLonger begin (holds_from who None steps ++ others) last.log → IsSoFar who last opening others now courses
   way_registered (WentByLines.begins seat) begin opens unwatched known exact answers done more along others from left was longer = record {
@@ -230,7 +228,7 @@ module _ (log_is_placed : LogIsPlaced) (workload : Workload) (count who : ℕ) (
       subst (AreAnsweredFrom last.log last.asks who 1) traces answers in
       let on : NoneElseGrowsAlong who None (before ++ (steps ++ more)) =
       subst (NoneElseGrowsAlong who None) (append_assoc before steps more) along in
-      let parts = done_before workload opening.standing courses course done in
+      let parts = done_before workload opening courses course done in
       let here =
       way_registered went begin opens unwatched known (omega (arith, rises, begins, ends, exact, both))
       (front_answered last.log last.asks who 1 (trace_of courses) course.trace whole) parts.0 (steps ++ more) on (late ++ others) from
@@ -251,7 +249,7 @@ module _ (log_is_placed : LogIsPlaced) (workload : Workload) (count who : ℕ) (
         known = goes.known;
         standing = is.left
             ∙ (ap (after_line course.line course.answer course.trace) here.standing
-            ∙ sym (standing_more opening.standing courses course));
+            ∙ sym (standing_more opening courses course));
         registered = line_registered others here.log old new courses course steps goes
             (record { is = is; done = parts.1; standing = here.standing; known = goes.known })
             (asked_above who last next course.trace late further.does others here.to here.log here.left here.longer) here.registered;

@@ -1,7 +1,8 @@
 -- What participants on threads did, each told by its own way, and what is left once all came home; and that this is an end of their workload.
 -- The rule "Together" of docs/RUNS.md.
-use Rattle.std.specs.Prelude.{◌≡◌, ℕ, ◌<◌, ◌≤◌, ◌==◌, true, List, [], Contains, filter, length, map, None, Some, slice_get}
+use Rattle.std.specs.Prelude.{◌≡◌, ℕ, ◌<◌, ◌≤◌, ◌==◌, true, false, List, [], Contains, filter, length, map, take, None, Some, slice_get}
 use Rattle.std.specs.List.{All}
+use Rattle.hp_base.specs.declared.chunk.Chunk.{Chunk}
 use Rattle.hp_hall.specs.Mail.{MailStep}
 use Rattle.hp_hall.specs.Own.{Own}
 use Rattle.hp_heap.specs.History.{HeapView, IsSound}
@@ -16,7 +17,10 @@ use Rattle.hp_segs.specs.SegsView.{SegsView, granted_by, is_member}
 use Rattle.hp_segs.specs.declared.outcome.AskLog.{AskLog}
 use Rattle.hp_serve.specs.Ending.{LeavesTable}
 use Rattle.hp_serve.specs.Tied.{HasTable, part_of}
+use Rattle.hp_script.specs.declared.line.Act.TheVariants as act
 use Rattle.hp_proc.specs.Acting.{AreAsked}
+use Rattle.hp_proc.specs.Awaits.{StandBefore}
+use Rattle.hp_proc.specs.Courses.{calls_in}
 use Rattle.hp_proc.specs.Ends.{AreGrown, AreHeapsOf, IsEnd, KeepsCalls, OwnsItsPages}
 use Rattle.hp_proc.specs.LinesDone.{AreDone, Course, opening_standing, standing_after, trace_of}
 use Rattle.hp_weave.specs.Holds.{Chain, Hold, holds_of}
@@ -67,12 +71,15 @@ pub record CameByHolds (workload : Workload) (steps : ℕ → List MailStep) (ho
   pub led : All IsLed holds
   pub alone : (who : ℕ) → who < workload.participants → NoneElseGrowsAlong who None (steps who)
 
--- A participant leaves its table: that is the one of its number, as far as it has unmapped; it is in the roster exactly where its lines leave it
--- attached, and there it has taken in each record that was granted.
+-- A participant leaves its table: that is the one of its number, as far as it has unmapped, with the rows of the chunks that it has attached; it is
+-- in the roster exactly where its lines leave it attached, and there it has taken in each record that was granted; where it is out, it has
+-- attached no chunk.
 pub record LeavesItsTable (workload : Workload) (who : ℕ) (segs : SegsView) (last : Seat) (courses : List Course) (table : Table) : Type 0
   where
     pub own : Own
-    pub kept : HasTable segs.log (part_of last.party.joined own) last.party.maps
+    pub marked : ℕ → List Chunk
+    pub kept : HasTable segs.log (part_of last.party.joined own) marked last.party.maps
+    pub away : last.party.joined ≡ false → (heap : ℕ) → marked heap ≡ []
     pub leaves : LeavesTable last.party table
     pub member : is_member segs.roster who ≡ last.party.joined
     pub attached : last.party.joined ≡ (standing_after (opening_standing workload who) courses).attached
@@ -90,8 +97,16 @@ pub record AreKeptAtLast (workload : Workload) (courses : ℕ → List Course) (
   pub grown : AreGrown heaps segs
   pub owned : All (OwnsItsPages segs) heaps
 
+-- What participants awaited stood before what they did afterwards: of each history the calls that one made in the awaited lines stand before those
+-- that another makes after the line that awaited them.
+abbrev pub HaveAwaited : (ℕ → List Course) → List HeapView → Type 0
+HaveAwaited courses heaps = (who place other lines : ℕ) (course : Course) → slice_get (courses who) place ≡ Some course
+    → course.line.act ≡ act.Await other lines
+    → All (λ heap. StandBefore heap.history other (length (calls_in (trace_of (take lines (courses other))))) who
+    (length (calls_in (trace_of (take place (courses who)))))) heaps
+
 -- The participants of a workload came home, each by its way; what participant 0 had fetched by then was posted; the answers are woven into the
--- order of the lines; and this is what they left.
+-- order of the lines; what they awaited stood first; and this is what they left.
 pub record AllCameHome (workload : Workload) (answers : List Answer) (heaps : List HeapView) (segs : SegsView) (tables : List Table) : Type 0
   where
     pub given : IsGiven workload
@@ -109,6 +124,7 @@ pub record AllCameHome (workload : Workload) (answers : List Answer) (heaps : Li
     pub no_steps : (who : ℕ) → workload.participants ≤ who → steps who ≡ []
     pub posted : (seat : Seat) → slice_get last 0 ≡ Some seat → ArePosted steps seat
     pub answered : answers ≡ woven (map (λ line. line.participant) workload.lines.items) (λ who. map (λ course. course.answer) (courses who))
+    pub awaited : HaveAwaited courses heaps
     -- what they left
     pub holds : List (Hold SegsView)
     pub held : CameByHolds workload steps holds segs

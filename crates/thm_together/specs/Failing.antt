@@ -11,7 +11,7 @@ use Rattle.hp_segs.specs.SegsView.{SegsView}
 use Rattle.hp_segs.specs.declared.ask.Ask.{Ask}
 use Rattle.hp_segs.specs.declared.outcome.AskLog.{AskLog}
 use Rattle.hp_proc.specs.LinesDone.{Course}
-use Rattle.thm_run.specs.EndLaws.{FailsFor, IsFailedMapping, IsRefusedAttach}
+use Rattle.thm_run.specs.EndLaws.{FailsFor, IsFailedMapping, IsRefusedMapping}
 use Rattle.thm_run.specs.Seats.{Seat}
 use Rattle.thm_together.specs.CameHome.{AllCameHome, courses_in_order}
 
@@ -40,16 +40,17 @@ FailsOnceWhereHome = (workload : Workload) (answers : List Answer) (heaps : List
     → slice_get segs.asks place ≡ Some entry → slice_get segs.asks other ≡ Some second → IsFailedMapping participant call entry
     → IsFailedMapping participant call second → place ≡ other
 
--- an attach was refused at a call at which its participant's mapper may fail, and two of one call are one line
+-- a line that attaches its participant, or a chunk, was refused at a call at which its participant's mapper may fail, and two of one call are one
+-- line
 abbrev pub RefusesWhereHome : Type 0
 RefusesWhereHome = (workload : Workload) (answers : List Answer) (heaps : List HeapView) (segs : SegsView) (tables : List Table)
     (home : AllCameHome workload answers heaps segs tables) (place : ℕ) (course : Course) (participant call : ℕ)
-    → slice_get (courses_in_order workload home.courses) place ≡ Some course → IsRefusedAttach participant call course
+    → slice_get (courses_in_order workload home.courses) place ≡ Some course → IsRefusedMapping participant call course
     → MayFailAt home.first participant call
 
 abbrev pub RefusesOnceWhereHome : Type 0
 RefusesOnceWhereHome = (workload : Workload) (answers : List Answer) (heaps : List HeapView) (segs : SegsView) (tables : List Table)
     (home : AllCameHome workload answers heaps segs tables) (place other : ℕ) (course second : Course) (participant call : ℕ)
     → slice_get (courses_in_order workload home.courses) place ≡ Some course
-    → slice_get (courses_in_order workload home.courses) other ≡ Some second → IsRefusedAttach participant call course
-    → IsRefusedAttach participant call second → place ≡ other
+    → slice_get (courses_in_order workload home.courses) other ≡ Some second → IsRefusedMapping participant call course
+    → IsRefusedMapping participant call second → place ≡ other

@@ -6,10 +6,12 @@ use Rattle.hp_hall.specs.declared.note.Note.{Note}
 use Rattle.hp_serve.specs.Coordinating.{IsServed}
 use Rattle.hp_serve.specs.Party.{Party}
 use Rattle.hp_proc.specs.Acting.{Acts}
+use Rattle.hp_proc.specs.Awaiting.{HasAwaited}
 use Rattle.hp_proc.specs.Courses.{after_line, calls_in}
 use Rattle.hp_proc.specs.Denying.{denials_of}
 use Rattle.hp_proc.specs.Histories.{entries_for}
 use Rattle.hp_proc.specs.LinesDone.{Course, trace_of}
+use Rattle.hp_proc.specs.NamesOfLines.{NamesOfLine}
 use Rattle.hp_proc.specs.ParticipantView.{ParticipantView, after_registering, with_party}
 use Rattle.hp_proc.specs.Progress.{AreOnce}
 use Rattle.thm_run.specs.OwnLines.{AddsByLines, AreAddedIn, WentByLines}
@@ -44,6 +46,7 @@ abbrev pub DoesALineOnItsWay : Type 0
 DoesALineOnItsWay = (count : ℕ) (first : Seat) (doer mid : ParticipantView) (courses : List Course) (course : Course)
     (steps more : List MailStep) (held : List ℕ) (notes : List Note) → first.party.deadline ≤ MAX_DEADLINE
     → IsOnItsWay count first doer courses steps → Acts count None None held doer mid course.trace more → AreOnce held
+    → NamesOfLine course.trace more → HasAwaited course.line.act more
     → (after_registering course.line.act course.answer mid).context.standing
     ≡ after_line course.line course.answer course.trace doer.context.standing
     → AddsItsCalls first.party.me (length (calls_in (trace_of courses))) course more

@@ -22,7 +22,7 @@ pub fn threads_law()
 {}
 
 /// A growth that was refused as a mapping failed was so at a call at which the mapper may answer so with which that participant began, and at
-/// most one by one call; and so were attaches. Own.
+/// most one by one call; and so were lines that attach a participant or a chunk. Own.
 pub fn failing_law()
     ensures fails { FailsWhereHome }
     ensures once { FailsOnceWhereHome }

@@ -33,6 +33,7 @@ use Rattle.hp_proc.specs.Doing.{Deed, Doing, Goes, Leads}
 use Rattle.hp_proc.specs.Doing.Done.{Called}
 use Rattle.hp_heap.specs.HistoryLaws.{run_cut, run_grown, runs_cut, runs_grown}
 use Rattle.hp_proc.specs.Histories.{entries_for, entry_for}
+use Rattle.hp_proc.specs.LineInHall.{IsAsTaken}
 use Rattle.hp_proc.specs.ParticipantView.{ParticipantView, after_call}
 use Rattle.hp_stats.specs.StatViews.{PenView}
 use Rattle.hp_proc.specs.Progress.{Does, DoesIn, IsInHand, IsTakenWith, Moment, caller_of, in_hand, moment_of, with_hand}
@@ -122,7 +123,7 @@ module _ (doer : ParticipantView) (parts : ℕ → HeapPart) (log : List LogReco
   index_is : new.plain.index ≡ old.plain.index
   index_is = call_index (caller_of doer) call answer old new is
 
-  entries_by : (heap : ℕ) → (with_hand doer.party.me new parts heap).entries
+  pub entries_by : (heap : ℕ) → (with_hand doer.party.me new parts heap).entries
       ≡ (with_hand doer.party.me old parts heap).entries ++ entries_for doer.party.me heap (doer.context.calls + 1) (own ∷ [])
   entries_by heap = ⊎_elim
       (λ here.
@@ -267,6 +268,16 @@ held_spared old new (Some holding) plain same held = record {
 pub taken_with : {pen : PenView} (old new : HeapView) (taken : ℕ → Option Kept) → new.plain.index ≡ old.plain.index
     → IsTakenWith taken old.plain.index pen → IsTakenWith taken new.plain.index pen
 taken_with old new taken index with_it = record { heap = with_it.heap; out = ap taken index ∙ with_it.out }
+
+-- one that was as it was taken is so with room for more calls
+pub spared_taken : (old new : HeapView) (taken : ℕ → Option Kept) → SameButSpare old new → IsAsTaken taken old → IsAsTaken taken new
+spared_taken old new taken same is = record {
+  was = is.was;
+  pen = is.pen;
+  out = ap (λ (heap : PlainHeap). taken heap.index) same.plain ∙ is.out;
+  same = is.same ∙ sym same.plain;
+  left = is.left ∙ sym same.history;
+}
 
 module _ (old new : HeapView) (same : SameButSpare old new) (moment : Moment) where
   -- a heap with room for more calls is in hand as before

@@ -1,5 +1,5 @@
 -- A heap in hand that got a call of an external heap: it is in hand still, with the marks and the table that its holder has then.
-use Rattle.std.proofs.Common.{◌≡◌, ◌∙◌, ℕ, ◌+◌, List, [], Option, refl, sym, ap, subst, arith}
+use Rattle.std.proofs.Common.{◌+◌, ◌∙◌, ◌≡◌, List, Option, [], ap, arith, refl, subst, sym, ℕ}
 use Rattle.std.specs.Prelude.{slice_get}
 use Rattle.hp_base.specs.declared.pool_line.PoolLine.{PoolLine}
 use Rattle.hp_hall.specs.Giving.{IsNumbered, entries_made}
@@ -12,11 +12,10 @@ use Rattle.hp_heap.specs.HistoryLaws.{run_cut, run_grown}
 use Rattle.hp_heap.specs.declared.entry.HeapAnswer.{HeapAnswer}
 use Rattle.hp_heap.specs.declared.entry.HeapCall.{HeapCall}
 use Rattle.hp_log.specs.declared.log_record.LogRecord.{LogRecord}
-use Rattle.hp_proc.proofs.HandFacts.HandCalls.{call_index, call_serves, hand_goes, held_still}
+use Rattle.hp_proc.proofs.HandFacts.HandCalls.{hand_goes, held_still}
 use Rattle.hp_proc.proofs.HandFacts.HeldOn.{GoesOnHeld}
 use Rattle.hp_proc.specs.Heaps.{sockets_of}
 use Rattle.hp_proc.specs.HeldMarks.{HoldsMarked, IsTiedWith, marked_with}
-use Rattle.hp_proc.specs.MarksInHand.{StaysInHand}
 use Rattle.hp_proc.specs.OwnChunks.{AreMarkedAs}
 use Rattle.hp_proc.specs.ParticipantView.{ParticipantView, after_call}
 use Rattle.hp_proc.specs.Progress.{IsInHand, caller_of, moment_of}
@@ -75,19 +74,4 @@ module _ (old new : ParticipantView) (heap next : HeapView) (call : HeapCall) (a
     attached = holds.attached ∙ sym attached;
     named = holds.named ∙ sym (ap (λ (lines : List PoolLine). sockets_of lines) pools);
     mapped = holds.mapped;
-  }
-
-  -- so it stays in hand, in whatever hall
-  pub stays_called : ((state : HallState) → HoldsMarked me old heap state
-      → GoesOnHeld state.taken me (state.part me heap.plain.index).claims heap.plain next.plain)
-      → ((state : HallState) → HoldsMarked me old heap state → IsTiedWith me new.party next state)
-      → ((state : HallState) → HoldsMarked me old heap state → (index : ℕ)
-      → AreMarkedAs index (marked_with me next state index) new.context.standing.chunks)
-      → StaysInHand old new heap next
-  stays_called goes tied noted = record {
-    same = same;
-    pools = pools;
-    index = call_index (caller_of old) call answer heap next step;
-    its_socket = call_serves (caller_of old) call answer heap next step;
-    holds = λ state holds. holds_called state holds (goes state holds) (tied state holds) (noted state holds);
   }

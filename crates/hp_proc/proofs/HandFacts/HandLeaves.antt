@@ -1,27 +1,26 @@
 -- A heap in hand of which its holder has left a chunk: it is in hand still, and the holder's table and its notes are those of the marks there.
-use Rattle.std.proofs.Common.{◌≡◌, ◌≢◌, ◌∙◌, ℕ, ◌+◌, true, List, map, refl, sym, ap, subst, ⊎_elim}
+use Rattle.std.proofs.Common.{◌+◌, ◌∙◌, ◌≡◌, ◌≢◌, List, ap, map, refl, subst, sym, true, ℕ, ⊎_elim}
 use Rattle.std.proofs.lemmas.Bool.{cases_eq}
 use Rattle.hp_base.specs.Flags.{has_bit}
 use Rattle.hp_base.specs.declared.chunk.Chunk.{Chunk}
 use Rattle.hp_external.proofs.ChunkLemmas.{its_addr, its_len}
 use Rattle.hp_external.specs.Attaching.{Leaves}
+use Rattle.hp_hall.proofs.NamesLeft.{call_leaves}
 use Rattle.hp_hall.specs.HallState.{HallState}
 use Rattle.hp_hall.specs.Naming.{marked_by}
-use Rattle.hp_hall.proofs.NamesLeft.{call_leaves}
 use Rattle.hp_heap.specs.ChunkOrder.{AreInOrder}
-use Rattle.hp_heap.specs.Chunks.{after_unshare, chunk_at}
+use Rattle.hp_heap.specs.Chunks.{after_unshare}
 use Rattle.hp_heap.specs.History.{HeapView}
 use Rattle.hp_heap.specs.PlainHeap.{PlainHeap}
 use Rattle.hp_heap.specs.Step.{after}
 use Rattle.hp_heap.specs.declared.entry.HeapAnswer.TheVariants as answer
 use Rattle.hp_heap.specs.declared.entry.HeapCall.TheVariants as call
 use Rattle.hp_proc.proofs.HandFacts.HandCalls.{call_index}
-use Rattle.hp_proc.proofs.HandFacts.HandExternal.{stays_called}
+use Rattle.hp_proc.proofs.HandFacts.HandExternal.{holds_called}
 use Rattle.hp_proc.proofs.HandFacts.HandTied.{tied_once_left, with_else, with_here}
 use Rattle.hp_proc.proofs.HandFacts.HeldOn.{leaves_held}
 use Rattle.hp_proc.proofs.NotedLeft.{noted_else, noted_left}
 use Rattle.hp_proc.specs.HeldMarks.{HoldsMarked, marked_with}
-use Rattle.hp_proc.specs.MarksInHand.{StaysInHand}
 use Rattle.hp_proc.specs.OwnChunks.{AreMarkedAs, chunks_of, own_chunk, without_own_chunk}
 use Rattle.hp_proc.specs.ParticipantView.{ParticipantView}
 use Rattle.hp_proc.specs.Progress.{caller_of}
@@ -84,15 +83,12 @@ module _ (old new : ParticipantView) (heap next : HeapView) (addr len : ℕ)
         ∙ (sym (noted_else me heap.plain addr len leaves.chunk holds.in_hand.sound.tiled order leaves.there at index old.context.standing.chunks away)
         ∙ ap (chunks_of index) (sym its_note)))
 
-  pub leaves_stay : StaysInHand old new heap next
-  leaves_stay =
-      stays_called old new heap next (call.Unshare addr len) answer.Done leaves.unshared same calls pools attached pages refl refl
-      (λ state holds.
-      leaves_held state.taken me (state.part me at).claims heap.plain next.plain
-      (call_leaves (caller_of old) (call.Unshare addr len) answer.Done heap next leaves.unshared holds.in_hand.sound.tiled tt) holds.in_hand.claimed)
-      (λ state holds.
-      tied_once_left me old.party new.party heap next state addr len leaves.chunk holds.in_hand.sound.tiled order leaves.there holds.in_hand.few index_is
-      joined leaves.others holds.tied mark step leaves.rows)
-      (λ state holds index.
-      ⊎_elim (λ (here : index ≡ at). noted_here state holds index here) (λ (away : index ≢ at). noted_there state holds index away)
-      (cases_eq index at))
+    pub leaves_hold : HoldsMarked me new next state
+    leaves_hold =
+        holds_called old new heap next (call.Unshare addr len) answer.Done leaves.unshared same calls pools attached pages refl refl state holds
+        (leaves_held state.taken me (state.part me at).claims heap.plain next.plain
+        (call_leaves (caller_of old) (call.Unshare addr len) answer.Done heap next leaves.unshared holds.in_hand.sound.tiled tt) holds.in_hand.claimed)
+        (tied_once_left me old.party new.party heap next state addr len leaves.chunk holds.in_hand.sound.tiled order leaves.there holds.in_hand.few
+        index_is joined leaves.others holds.tied mark step leaves.rows)
+        (λ index.
+        ⊎_elim (λ (here : index ≡ at). noted_here index here) (λ (away : index ≢ at). noted_there index away) (cases_eq index at))

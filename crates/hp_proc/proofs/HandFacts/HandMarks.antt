@@ -68,6 +68,12 @@ pub spared_marks : (me : ℕ) (old new : HeapView) (state : HallState) → SameB
 spared_marks me old new state same own =
     subst (λ (plain : PlainHeap). marked_by me plain ≡ marked_in me state plain.index) (sym same.plain) own
 
+-- and its marks are the same once that is given, where they were
+pub marks_given : (doer : ParticipantView) (heap : HeapView) (a b : HallState)
+    → marked_by doer.party.me heap.plain ≡ marked_in doer.party.me a heap.plain.index → HasMarksOf doer.party.me heap a b
+    → (index : ℕ) → marked_in doer.party.me b index ≡ marked_in doer.party.me a index
+marks_given doer heap a b own marks index = marks index ∙ with_same doer.party.me heap a own index
+
 -- a table that was tied to the marks of the heap in hand is tied once that is given
 pub tied_given : (me : ℕ) (party : Party) (heap : HeapView) {a b : HallState} → IsLater a b → b.joined me ≡ a.joined me → b.own me ≡ a.own me
     → HasMarksOf me heap a b → IsTiedWith me party heap a → IsTiedIn me party b

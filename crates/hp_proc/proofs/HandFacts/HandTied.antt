@@ -1,5 +1,5 @@
 -- The table of a participant that attaches a chunk of the heap in its hand, or leaves one, is tied to its marks with that heap in hand.
-use Rattle.std.proofs.Common.{◌≡◌, ◌≢◌, ◌⊎◌, ◌∙◌, ℕ, ◌<◌, Bool, true, false, List, ◌++◌, Contains, Option, Some, refl, sym, ap, subst, eqb, eq-eqb, inl, inr, true≢false}
+use Rattle.std.proofs.Common.{◌≡◌, ◌≢◌, ◌⊎◌, ◌∙◌, ℕ, ◌<◌, Bool, true, false, cond, List, ◌++◌, Contains, Option, Some, refl, sym, ap, subst, eqb, eq-eqb, inl, inr, true≢false}
 use Rattle.std.proofs.lemmas.Bool.{cond-false, cond-true, ne_eqb}
 use Rattle.hp_base.specs.Flags.{has_bit}
 use Rattle.hp_base.specs.declared.chunk.Chunk.{Chunk}
@@ -33,6 +33,13 @@ pub with_else : (me : ℕ) (heap : HeapView) (state : HallState) (index : ℕ) �
     → marked_with me heap state index ≡ marked_in me state index
 with_else me heap state index away =
     cond-false (eqb index heap.plain.index) (marked_by me heap.plain) (marked_in me state index) (ne_eqb index heap.plain.index away)
+
+-- with the same marks there, they are the same in all heaps
+pub marks_with : (me : ℕ) (heap next : HeapView) (state : HallState) (index : ℕ) → next.plain.index ≡ heap.plain.index
+    → marked_by me next.plain ≡ marked_by me heap.plain → marked_with me next state index ≡ marked_with me heap state index
+marks_with me heap next state index same own =
+    ap (λ (at : ℕ). cond (eqb index at) (marked_by me next.plain) (marked_in me state index)) same
+    ∙ ap (λ (marks : List Chunk). cond (eqb index heap.plain.index) marks (marked_in me state index)) own
 
 module _ (me : ℕ) (party after : Party) (heap next : HeapView) (state : HallState) (addr len : ℕ) (chunk : Chunk) (tiled : IsTiled heap.plain)
     (order : AreInOrder heap.plain.chunks) (there : chunk_at addr len heap.plain ≡ Some chunk) (few : heap.plain.index < MAX_HEAPS)

@@ -1,22 +1,24 @@
 -- No heap is named twice: of the heaps that an allocation tries, or in which an element is looked for, and of those to which a line came.
-use Rattle.std.proofs.Common.{◌≡◌, ◌==◌, ◌∙◌, ℕ, ◌+◌, ◌<◌, ◌≤◌, Bool, true, false, cond, not, ◌&&◌, List, [], ◌∷◌, ◌++◌, filter, find, take, drop, length, map, get_or, Option, Some, None, is_some, count_by, refl, ap, sym, subst, arith}
+use Rattle.std.proofs.Common.{◌≡◌, ◌==◌, ◌∙◌, ℕ, zero, suc, ◌+◌, ◌<◌, ◌≤◌, Bool, true, false, cond, not, ◌&&◌, List, [], ◌∷◌, ◌++◌, filter, filter_map, find, take, drop, length, map, get_or, Option, Some, None, is_some, count_by, refl, ap, sym, subst, arith}
+use Rattle.std.specs.List.{range_with_len}
 use Rattle.std.specs.Option.{option_to_list}
 use Rattle.std.proofs.lemmas.Bool.{eqb-true, ne_eqb}
 use Rattle.std.proofs.lemmas.List.{map-append, take-append-drop, take_more}
 use Rattle.std.proofs.lemmas.List.Sums.{count_by-le-length}
+use Rattle.hp_base.specs.declared.limits.TheConstants.{MAX_HEAPS}
 use Rattle.hp_base.specs.declared.pool_line.PoolLine.{PoolLine}
 use Rattle.hp_heap.proofs.HistoryFacts.Counting.{count_by-append, count_by-cons}
 use Rattle.hp_heap.proofs.Members.{count_map}
 use Rattle.hp_script.specs.declared.options.SocketChoice.{SocketChoice}
 use Rattle.hp_script.specs.declared.options.SocketChoice.TheVariants.{Any, Number}
-use Rattle.hp_proc.specs.Contexts.{Context, named_heap, searched_by}
-use Rattle.hp_proc.specs.Courses.{heap_of_element}
 use Rattle.hp_proc.specs.Heaps.{NamedHeap, has_name, heaps_for, heaps_from, own_first, socket_heaps, sockets_of, takes_pages_of}
-use Rattle.hp_proc.specs.Lines.{Maker}
+use Rattle.hp_proc.specs.PlaceLists.{place_named}
 use Rattle.hp_proc.specs.Progress.{AreOnce}
+use Rattle.hp_proc.specs.SharedNames.{heaps_in, named_at}
 use Rattle.hp_proc.specs.declared.searched_heap.SearchedHeap.{SearchedHeap}
-use Rattle.hp_proc.specs.declared.socket_heap.SocketHeap.{SocketHeap}
 use Rattle.hp_proc.proofs.Mapped.{map-mapped}
+use Rattle.hp_zone.specs.Directory.{PlainDirectory, heap_at}
+use Rattle.hp_zone.specs.declared.heap_name.HeapName.{HeapName}
 
 -- no heap at all, or one alone
 pub once_few : (heaps : List ℕ) → length heaps ≤ 1 → AreOnce heaps
@@ -128,30 +130,86 @@ own_once own heaps once heap =
       once heap,
     )
 
--- an allocation tries no heap twice
-heaps_for_once : (pools : List PoolLine) (own : ℕ) (name : Option (List ℕ)) (choice : SocketChoice)
-    → AreOnce (map index_of (heaps_for own (socket_heaps pools) name choice))
-heaps_for_once pools own (Some name) choice = once_listed index_of (find (has_name name) (socket_heaps pools))
-heaps_for_once pools own None (Number socket) = once_listed index_of (find (takes_pages_of socket) (socket_heaps pools))
-heaps_for_once pools own None Any = own_once own (socket_heaps pools) (socket_once pools)
+-- the heaps that have a name, by rising index
+abbrev search : (ℕ → Option HeapName) → ℕ → ℕ → List NamedHeap
+search at from n = filter_map (λ index. named_at index (at index)) (range_with_len from n)
 
-pub places_once : (pools : List PoolLine) (own : ℕ) (name : Option (List ℕ)) (choice : SocketChoice) (places : List SocketHeap)
-    → map named_heap places ≡ heaps_for own (socket_heaps pools) name choice → AreOnce (map (λ (place : SocketHeap). place.index) places)
-places_once pools own name choice places are =
-    subst AreOnce (ap (map index_of) (sym are) ∙ map-mapped index_of named_heap places) (heaps_for_once pools own name choice)
-
--- an element is looked for in no heap twice
-pub searched_once : (who : ℕ) (context : Context) (maker : Maker)
-    → AreOnce (map (λ (place : SearchedHeap). place.index) (searched_by who context maker))
-searched_once who context maker = by_test ((maker.participant == who) && not maker.zone)
+named_below : (at : ℕ → Option HeapName) (n from heap : ℕ) → heap < from
+    → count_by (λ (other : ℕ). other == heap) (map index_of (search at from n)) ≡ 0
+named_below at zero from heap below = refl
+named_below at (suc n) from heap below = by_name (at from) refl (named_below at n (from + 1) heap (omega (arith, below)))
   where
-    place_of : NamedHeap → SearchedHeap
-    place_of heap = record { index = heap.index; serves = heap.serves }
+    rest : List ℕ
+    rest = map index_of (search at (from + 1) n)
 
-    by_test : (own : Bool) → AreOnce (map (λ (place : SearchedHeap). place.index)
-        (cond own (option_to_list (heap_of_element context.pools context.standing.elements (Some maker))) (map place_of (socket_heaps context.pools))))
-    by_test true =
-        once_listed (λ (place : SearchedHeap). place.index) (heap_of_element context.pools context.standing.elements (Some maker))
-    by_test false =
-        subst AreOnce (sym (map-mapped (λ (place : SearchedHeap). place.index) place_of (socket_heaps context.pools)))
-        (socket_once context.pools)
+    by_name : (name : Option HeapName) → at from ≡ name → count_by (λ (other : ℕ). other == heap) rest ≡ 0
+        → count_by (λ (other : ℕ). other == heap) (map index_of (search at from (suc n))) ≡ 0
+    by_name None is later = rw is later
+    by_name (Some name) is later =
+        let apart : (from == heap) ≡ false = ne_eqb from heap (λ same. omega (arith, same, below)) in
+        let measure : cond {A = ℕ} (from == heap) 1 0 ≡ 0 = rw apart refl in
+        let counted : count_by (λ (other : ℕ). other == heap) (from ∷ rest) ≡ 0 =
+        omega (arith, count_by-cons (λ (other : ℕ). other == heap) from rest, measure, later) in
+        rw is counted
+
+named_from : (at : ℕ → Option HeapName) (n from : ℕ) → AreOnce (map index_of (search at from n))
+named_from at zero from heap = omega arith
+named_from at (suc n) from heap = by_name (at from) refl (named_from at n (from + 1) heap)
+  where
+    rest : List ℕ
+    rest = map index_of (search at (from + 1) n)
+
+    by_test : (test : Bool) → (from == heap) ≡ test → count_by (λ (other : ℕ). other == heap) rest ≤ 1
+        → count_by (λ (other : ℕ). other == heap) (from ∷ rest) ≤ 1
+    by_test true same later =
+        let measure : cond {A = ℕ} (from == heap) 1 0 ≡ 1 = rw same refl in
+        omega (
+          arith,
+          count_by-cons (λ (other : ℕ). other == heap) from rest,
+          measure,
+          named_below at n (from + 1) heap (omega (arith, eqb-true from heap same)),
+        )
+    by_test false apart later =
+        let measure : cond {A = ℕ} (from == heap) 1 0 ≡ 0 = rw apart refl in
+        omega (arith, count_by-cons (λ (other : ℕ). other == heap) from rest, measure, later)
+
+    by_name : (name : Option HeapName) → at from ≡ name → count_by (λ (other : ℕ). other == heap) rest ≤ 1
+        → count_by (λ (other : ℕ). other == heap) (map index_of (search at from (suc n))) ≤ 1
+    by_name None is later = rw is later
+    by_name (Some name) is later = rw is (by_test (from == heap) refl later)
+
+pub named_once : (plain : PlainDirectory) → AreOnce (map index_of (heaps_in plain))
+unfolding heaps_in
+named_once plain = named_from (heap_at plain) MAX_HEAPS 0
+
+-- an allocation tries no heap twice
+heaps_for_once : (own : ℕ) (heaps : List NamedHeap) (name : Option (List ℕ)) (choice : SocketChoice) → AreOnce (map index_of heaps)
+    → AreOnce (map index_of (heaps_for own heaps name choice))
+heaps_for_once own heaps (Some name) choice once = once_listed index_of (find (has_name name) heaps)
+heaps_for_once own heaps None (Number socket) once = once_listed index_of (find (takes_pages_of socket) heaps)
+heaps_for_once own heaps None Any once = own_once own heaps once
+
+pub named_places_once : (heaps : List NamedHeap) (places : List SearchedHeap) → places ≡ map place_named heaps → AreOnce (map index_of heaps)
+    → AreOnce (map (λ (place : SearchedHeap). place.index) places)
+named_places_once heaps places are once =
+    subst AreOnce
+    (sym (ap (map (λ (place : SearchedHeap). place.index)) are ∙ map-mapped (λ (place : SearchedHeap). place.index) place_named heaps)) once
+
+-- of sockets, or of all that have a name
+pub places_once : (pools : List PoolLine) (own : ℕ) (name : Option (List ℕ)) (choice : SocketChoice) (places : List SearchedHeap)
+    → places ≡ map place_named (heaps_for own (socket_heaps pools) name choice) → AreOnce (map (λ (place : SearchedHeap). place.index) places)
+places_once pools own name choice places are =
+    named_places_once (heaps_for own (socket_heaps pools) name choice) places are
+    (heaps_for_once own (socket_heaps pools) name choice (socket_once pools))
+
+pub zone_places_once : (plain : PlainDirectory) (own : ℕ) (name : Option (List ℕ)) (choice : SocketChoice) (places : List SearchedHeap)
+    → places ≡ map place_named (heaps_for own (heaps_in plain) name choice) → AreOnce (map (λ (place : SearchedHeap). place.index) places)
+zone_places_once plain own name choice places are =
+    named_places_once (heaps_for own (heaps_in plain) name choice) places are
+    (heaps_for_once own (heaps_in plain) name choice (named_once plain))
+
+-- the one heap that a line found by its name, or where its own element lies
+pub one_once : (found : Option SearchedHeap) (places : List SearchedHeap) → places ≡ option_to_list found
+    → AreOnce (map (λ (place : SearchedHeap). place.index) places)
+one_once found places is =
+    subst AreOnce (ap (map (λ (place : SearchedHeap). place.index)) (sym is)) (once_listed (λ (place : SearchedHeap). place.index) found)

@@ -40,7 +40,8 @@ use Rattle.hp_proc.specs.ClaimedMemory.{claims_in, plan_in}
 use Rattle.hp_proc.specs.Doing.{Doing, Goes, Leads}
 use Rattle.hp_proc.specs.Doing.Done.{Called, ChunkMapped, HeapSeen, NamesChanged, NamesRead}
 use Rattle.hp_proc.specs.ExternalLines as external
-use Rattle.hp_proc.specs.ExternalLines.{OwnChunk, adding}
+use Rattle.hp_proc.specs.ExternalLines.{adding}
+use Rattle.hp_proc.specs.declared.own_chunk.OwnChunk.{OwnChunk}
 use Rattle.hp_proc.specs.SharedNames.{SharedNames, directory_in, heaps_in, meant_by, next_index, no_changes}
 use Rattle.hp_proc.specs.SharedNames.HeapMeant.{External, NoHeap}
 use Rattle.hp_proc.specs.SharedNames.NamesChange.{OfHeaps}
@@ -66,17 +67,15 @@ line_of who act = record { line = 7; participant = who; act = act }
 
 abbrev pub facts : List OwnChunk → Facts
 facts chunks = record {
-  known = record {
-    attached = true;
-    own_socket = 0;
-    pools = pools;
-    request = None;
-    maker = None;
-    own_heap = None;
-    watchers = [];
-    validators = [];
-  };
+  attached = true;
+  own_socket = 0;
+  pools = pools;
+  request = None;
+  maker = None;
+  own_heap = None;
   chunks = chunks;
+  watchers = [];
+  validators = [];
 }
 
 -- one external heap has a name; then it has memory; then the memory is gone again

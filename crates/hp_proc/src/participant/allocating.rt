@@ -11,16 +11,13 @@ ghost use Rattle.hp_serve.specs.Clocks.{RisesWithin, longest_allocation, longest
 ghost use Rattle.hp_proc.specs.Contexts.{IsNextLine, IsPlaceOf};
 ghost use Rattle.hp_proc.specs.Doing.{Doing};
 ghost use Rattle.hp_proc.specs.Heaps.{NamedHeap};
-ghost use Rattle.hp_proc.specs.Lines.{reading_names};
-ghost use Rattle.hp_proc.specs.SharedNames.{SharedNames};
 ghost use Rattle.hp_proc.specs.ParticipantView.{after_answer};
 ghost use Rattle.hp_proc.specs.PlaceLists.{place_list, place_named};
 ghost use Rattle.hp_proc.specs.Progress.{AreOnce, Brings, IsAllocation, Tries};
 ghost use Rattle.hp_proc.specs.declared.searched_heap.SearchedHeap.{SearchedHeap};
 ghost use Rattle.hp_hall.specs.HallState.{IsBusy};
-ghost use Rattle.hp_hall.specs.Telling.{has_names};
 ghost use Rattle.hp_hall.specs.declared.slot.TheConstants.{NAMES_SLOT};
-ghost use Rattle.hp_proc.specs.LineInHall.{ChoosesPlaces, DoesLineHere, HaltsHeld, HaltsHere, HaltsLineHere, HasCalledBeside, HasRoom, HoldsIn, IsBesideTheNames, IsKnownMapped, IsMapped, IsReadyAgain, IsReadyBut, IsReadyIn, KeepsHeld, MayGiveBeside, did_in, moment, moment_with};
+ghost use Rattle.hp_proc.specs.LineInHall.{ChoosesPlaces, DoesLineHere, HaltsHeld, HaltsHere, HaltsLineHere, HasCalled, HasCalledBeside, HasNamesOut, HasRoom, HoldsIn, IsBesideTheNames, IsKnownMapped, IsMapped, IsReadyAgain, IsReadyBut, IsReadyIn, KeepsHeld, MayGiveBeside, StopsChoosing, did_in, moment, moment_with};
 ghost use Rattle.hp_proc.specs.ZonesInHand.{AgreeOnceAnswered, AgreeOnceAnsweredIn, answer_of, last_answer_of, last_heap_of};
 
 use super::Participant;
@@ -66,7 +63,7 @@ impl<'p, M: Mapper, F: Decide + Copy + Drop> Participant<'p, M, F> {
         requires of_socket { heap.old.plain.serves ≡ place.now.serves }
         requires room { HasRoom 3 heap.old self.old }
         requires beside { MayGiveBeside self.old.party.me (H.state hall.old) }
-        requires named { tag.zone ≡ true → has_names ((H.state hall.old).done self.old.party.me) ≡ true }
+        requires named { tag.zone ≡ true → HasNamesOut self.old.party.me (H.state hall.old) }
         ensures does { IfOk result (λ given. (its : NamedHeap) (heaps : List NamedHeap) → place_named its ≡ place.now
             → Tries place.now.index [] (H.state hall.old).count
             (did_in self.old.party.me (H.state hall.old)
@@ -117,7 +114,7 @@ impl<'p, M: Mapper, F: Decide + Copy + Drop> Participant<'p, M, F> {
         requires place { IsPlaceOf self.old.context.pools place.now }
         requires ready { IsReadyBut NAMES_SLOT self.old.party.me self.old (H.state hall.old) }
         requires beside { MayGiveBeside self.old.party.me (H.state hall.old) }
-        requires named { tag.zone ≡ true → has_names ((H.state hall.old).done self.old.party.me) ≡ true }
+        requires named { tag.zone ≡ true → HasNamesOut self.old.party.me (H.state hall.old) }
         ensures does { IfOk result (λ given. (its : NamedHeap) (heaps : List NamedHeap) → place_named its ≡ place.now
             → Tries place.now.index (place.now.index ∷ []) (H.state hall.old).count
             (did_in self.old.party.me (H.state hall.old)
@@ -154,7 +151,7 @@ impl<'p, M: Mapper, F: Decide + Copy + Drop> Participant<'p, M, F> {
         requires apart { AreOnce (map (λ place. place.index) places.now) }
         requires ready { IsReadyBut NAMES_SLOT self.old.party.me self.old (H.state hall.old) }
         requires beside { MayGiveBeside self.old.party.me (H.state hall.old) }
-        requires named { tag.zone ≡ true → has_names ((H.state hall.old).done self.old.party.me) ≡ true }
+        requires named { tag.zone ≡ true → HasNamesOut self.old.party.me (H.state hall.old) }
         ensures does { IfOk result (λ given. (heaps : List NamedHeap) → map place_named heaps ≡ places.now
             → Brings given.1 (H.state hall.old).count
             (did_in self.old.party.me (H.state hall.old)
@@ -214,9 +211,9 @@ impl<'p, M: Mapper, F: Decide + Copy + Drop> Participant<'p, M, F> {
         requires ready { IsReadyIn self.old.party.me self.old (H.state hall.old) }
         ensures does { IfOk result (λ places. ChoosesPlaces self.old.party.me self.old self.new options.now (place_list places)
             (hall.new ≡ hall.old) (H.state hall.old) (H.state hall.new)) }
-        ensures halts { OnErr result ((goes : SharedNames → Doing) → HaltsHere [] self.old.party.me self.old self.new (H.state hall.old)
-            (H.state hall.new) (reading_names goes)) }
-        ensures ready { IsReadyAgain self.old.party.me self.old self.new (H.state hall.new) }
+        ensures halts { OnErr result (StopsChoosing self.old.party.me self.old self.new options.now.heap (H.state hall.old)
+            (H.state hall.new)) }
+        ensures ready { HasCalled self.old.party.me self.old self.new (H.state hall.new) }
         ensures clock { RisesWithin H.pending (λ hall. IsBusy (H.state hall)) 0 (H.state hall.old).clock (H.state hall.new).clock }
         ensures goes_on { H.goes_on hall.old hall.new }
     {

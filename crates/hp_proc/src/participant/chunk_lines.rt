@@ -1,12 +1,11 @@
 //! What the lines that attach a chunk and leave it do with its heap in hand, and how a participant leaves all chunks when it detaches.
-ghost use Rattle.std.specs.Prelude.{◌≡◌, ◌⊎◌, ◌^◌, ◌<◌, ◌≤◌, ℕ, [], ◌∷◌, IfErr, IfOk, IsOk, None, OnErr, OnOk, length};
+ghost use Rattle.std.specs.Prelude.{◌≡◌, ◌⊎◌, ◌^◌, ◌<◌, ◌≤◌, ℕ, List, [], ◌∷◌, IfErr, IfOk, IsOk, None, OnErr, OnOk, length, true};
 ghost use Rattle.hp_base.specs.declared.limits.TheConstants.{MAX_HEAPS};
-ghost use Rattle.hp_external.specs.Attaching.{Attaches, IsAttachFault, IsDetachFault, IsOwnChunkAt};
+ghost use Rattle.hp_external.specs.Attaching.{Attaches, IsAttachFault, IsDetachFault, IsOwnChunkAt, MayAttach};
 ghost use Rattle.hp_external.specs.Naming.{IsThatHeap};
 ghost use Rattle.hp_hall.specs.HallState.{IsBusy};
 ghost use Rattle.hp_hall.specs.Naming.{marked_by};
 ghost use Rattle.hp_heap.specs.Chunks.{chunk_at};
-ghost use Rattle.hp_maps.specs.MapsView.{calls_of};
 ghost use Rattle.hp_script.specs.declared.answer.Answer.TheVariants as gives;
 ghost use Rattle.hp_proc.specs.Doing.{Doing};
 ghost use Rattle.hp_proc.specs.ExternalAnswers.{IsMeant, attach_said, detach_said, left_said};
@@ -15,7 +14,7 @@ ghost use Rattle.hp_proc.specs.HeldLines.{DetachesNoted};
 ghost use Rattle.hp_proc.specs.LineInHall.{DoesHere, DoesOnceHere, HaltsHere, HasRoom, IsReadyAgain, IsReadyIn};
 ghost use Rattle.hp_proc.specs.LeavesChunks.{LeavesInHand, LeavesNoted};
 ghost use Rattle.hp_proc.specs.MarksInHand.{HoldsNamedMarked, KeepsMarked};
-ghost use Rattle.hp_proc.specs.NamesInHand.{DoesNamedHeld, LooksAtSegs, StandsStill};
+ghost use Rattle.hp_proc.specs.NamesInHand.{DoesNamedHeld, StandsStill};
 ghost use Rattle.hp_proc.specs.OwnChunks.{AreFirstOf, AreMarkedAs, chunks_beside, chunks_of};
 ghost use Rattle.hp_proc.specs.ParticipantView.{with_party};
 ghost use Rattle.hp_proc.specs.Progress.{AreOnce, caller_of};
@@ -29,6 +28,7 @@ use hp_external::{AttachFault, DetachFault};
 use hp_hall::{Hall, Waiting};
 use hp_heap::Heap;
 use hp_script::Answer;
+use hp_segs::log_law;
 use hp_serve::{Decide, put_back, take_segments};
 use hp_zone::Names;
 use std::alloc::AllocError;
@@ -68,44 +68,34 @@ pub(crate) fn left_answer(judged: Result<(), DetachFault>) -> Answer
 }
 
 impl<'p, M: Mapper, F: Decide + Copy + Drop> Participant<'p, M, F> {
-    // Maps the pages of the chunk and sets its mark, while it has the segment value in hand, which shows that its memory is claimed.
-    fn attach_held<H: Hall>(
+    // Maps the pages of the chunk and sets its mark.
+    fn attach_in(
         &mut self,
-        hall: &mut H,
         names: &Names,
         heap: &mut Heap,
         text: &[u8],
         addr: u64,
         len: u64,
     ) -> Result<(), AttachFault>
-        requires holds { HoldsNamedMarked self.old.party.me self.old names.now heap.old (H.state hall.old) }
         requires named { IsThatHeap names.now.heaps.plain text.now heap.old.plain }
         requires room { HasRoom 1 heap.old self.old }
-        requires calls { calls_of self.old.party.maps ≤ 2 ^ 63 }
+        requires table { MayAttach self.old.party.me addr len heap.old.plain self.old.party.maps }
         ensures attached { OnOk result (Attaches (caller_of self.old) names.now.heaps.plain text.now addr len heap.old heap.new
             self.old.party.maps self.new.party.maps) }
         ensures refused { IfErr result (IsAttachFault self.old.party.me names.now.heaps.plain text.now addr len heap.old.plain
-            self.old.party.maps self.new.party.maps × (heap.new ≡ heap.old)) }
+            self.old.party.maps self.new.party.maps) }
+        ensures err { OnErr result (heap.new ≡ heap.old) }
         ensures only { self.new ≡ with_party (with_maps self.new.party.maps self.old.party) self.old }
-        ensures looks { LooksAtSegs self.old.party.me (H.state hall.old) (H.state hall.new) }
-        ensures goes_on { H.goes_on hall.old hall.new }
     {
-        let me = self.number();
         let caller = self.caller();
-        let segs = take_segments(hall, me);
-        hp_segs::log_law();
-        heap.chunks();
         let judged = self.judged.as_mut();
-        let _ = judged.server.rows();
-        let attached = judged
+        judged
             .server
-            .attach_memory(names, heap, caller, text, addr, len);
-        put_back(hall, me, segs);
-        attached
+            .attach_memory(names, heap, caller, text, addr, len)
     }
 
-    // `map`: the pages of the chunk come into its table, the heap in hand has its mark, and it notes the chunk. It stops where its mapper has
-    // made too many calls.
+    // `map`: the pages of the chunk come into its table, the heap in hand has its mark, and it notes the chunk. Meanwhile it has the segment
+    // value in hand, which shows that the chunk's memory is claimed. It stops where its mapper has made too many calls.
     pub(crate) fn map_held<H: Hall>(
         &mut self,
         hall: &mut H,
@@ -115,6 +105,7 @@ impl<'p, M: Mapper, F: Decide + Copy + Drop> Participant<'p, M, F> {
         addr: u64,
         len: u64,
     ) -> Result<Answer, AllocError>
+        requires attached { self.old.context.standing.attached ≡ true }
         requires holds { HoldsNamedMarked self.old.party.me self.old names.now heap.old (H.state hall.old) }
         requires named { IsThatHeap names.now.heaps.plain text.now heap.old.plain }
         requires meant { IsMeant names.now.heaps.plain text.now heap.old.plain.index }
@@ -134,13 +125,23 @@ impl<'p, M: Mapper, F: Decide + Copy + Drop> Participant<'p, M, F> {
             len,
         };
         let chunks = self.context.chunks_with(chunk)?;
-        match self.attach_held(hall, names, heap, text, addr, len) {
+        // What holds of the log, of the table and of the heap's chunks is handed out with these.
+        log_law();
+        self.judged.server.rows();
+        heap.chunks();
+        let me = self.number();
+        let segs = take_segments(hall, me);
+        match self.attach_in(names, heap, text, addr, len) {
             Ok(()) => {
+                put_back(hall, me, segs);
                 self.count_call();
                 self.context.note_chunks(chunks);
                 Ok(Answer::Done)
             }
-            Err(fault) => Ok(attach_answer(fault)),
+            Err(fault) => {
+                put_back(hall, me, segs);
+                Ok(attach_answer(fault))
+            }
         }
     }
 
@@ -183,6 +184,8 @@ impl<'p, M: Mapper, F: Decide + Copy + Drop> Participant<'p, M, F> {
         requires room { HasRoom 1 heap.old self.old }
         ensures left { LeavesNoted chunk.now self.old self.new heap.old heap.new }
     {
+        // What holds of all chunks is handed out with these.
+        heap.chunks();
         let caller = self.caller();
         let judged = self.judged.as_mut();
         judged
@@ -195,7 +198,6 @@ impl<'p, M: Mapper, F: Decide + Copy + Drop> Participant<'p, M, F> {
     // Leaves all chunks of the heap in its hand that it has attached, by rising address. Its chunks of earlier heaps it has left before.
     fn leave_held(&mut self, heap: &mut Heap)
         requires first { AreFirstOf heap.old.plain.index self.old.context.standing.chunks }
-        requires external { heap.old.plain.serves ≡ None }
         requires noted { AreMarkedAs heap.old.plain.index (marked_by self.old.party.me heap.old.plain) self.old.context.standing.chunks }
         requires room { HasRoom (length (chunks_of heap.old.plain.index self.old.context.standing.chunks)) heap.old self.old }
         ensures left { LeavesInHand (chunks_of heap.old.plain.index self.old.context.standing.chunks) self.old self.new heap.old heap.new }
@@ -205,9 +207,8 @@ impl<'p, M: Mapper, F: Decide + Copy + Drop> Participant<'p, M, F> {
             if chunk.heap != heap.index() {
                 return;
             }
-            // What holds of every heap and its chunks is handed out with these.
+            // What holds of every heap is handed out with this.
             heap.sound();
-            heap.chunks();
             self.leave_in(heap, &chunk);
         }
     }
@@ -219,7 +220,8 @@ impl<'p, M: Mapper, F: Decide + Copy + Drop> Participant<'p, M, F> {
         requires ready { IsReadyIn self.old.party.me self.old (H.state hall.old) }
         ensures does { OnOk result (DoesHere (index ∷ []) self.old.party.me self.old self.new (H.state hall.old) (H.state hall.new)
             (leaving_all self.old.context.standing.chunks) (leaving_all self.new.context.standing.chunks)) }
-        ensures left { OnOk result (self.new.context.standing.chunks ≡ chunks_beside index self.old.context.standing.chunks) }
+        ensures left { OnOk result (self.new.context.standing
+            ≡ record self.old.context.standing { chunks = chunks_beside index self.old.context.standing.chunks }) }
         ensures halts { OnErr result (HaltsHere (index ∷ []) self.old.party.me self.old self.new (H.state hall.old)
             (H.state hall.new) (leaving_all self.old.context.standing.chunks)) }
         ensures ready { IsReadyAgain self.old.party.me self.old self.new (H.state hall.new) }
@@ -238,7 +240,7 @@ impl<'p, M: Mapper, F: Decide + Copy + Drop> Participant<'p, M, F> {
         requires ready { (self.old.context.standing.chunks ≡ []) ⊎ IsReadyIn self.old.party.me self.old (H.state hall.old) }
         ensures does { OnOk result (DoesOnceHere self.old.party.me self.old self.new (H.state hall.old) (H.state hall.new)
             (leaving_all self.old.context.standing.chunks) (Doing.Ended gives.Done)) }
-        ensures left { OnOk result (self.new.context.standing.chunks ≡ []) }
+        ensures left { OnOk result (self.new.context.standing ≡ record self.old.context.standing { chunks = [] }) }
         ensures halts { OnErr result ((heaps : List ℕ) × AreOnce heaps × HaltsHere heaps self.old.party.me self.old self.new
             (H.state hall.old) (H.state hall.new) (leaving_all self.old.context.standing.chunks)) }
         ensures ready { IsReadyIn self.old.party.me self.old (H.state hall.old) → IsReadyAgain self.old.party.me self.old self.new (H.state hall.new) }

@@ -4,18 +4,18 @@ ghost use Rattle.hp_base.specs.declared.limits.TheConstants.{MAX_HEAPS};
 ghost use Rattle.hp_external.specs.Creating.{IsPlaceFor};
 ghost use Rattle.hp_hall.specs.HallState.{IsBusy};
 ghost use Rattle.hp_proc.specs.Doing.{Doing};
-ghost use Rattle.hp_proc.specs.ExternalAnswers.{IsChunkAnswer, IsCreateAnswer, IsExternalAct, IsHeapMeant, IsMeant, IsNameAnswer, chunk_said, create_said, name_said};
+ghost use Rattle.hp_proc.specs.ExternalAnswers.{IsChunkAnswer, IsCreateAnswer, IsExternalAct, IsHeapMeant, IsMeant, IsNameAnswer, IsNamedHeap, chunk_said, create_said, name_said};
 ghost use Rattle.hp_proc.specs.Handing.{shared_of};
-ghost use Rattle.hp_proc.specs.LineInHall.{DoesLineHere, HaltsLineHere, HasRoom, IsReadyAgain, IsReadyIn};
+ghost use Rattle.hp_proc.specs.LineInHall.{DoesLineHere, HaltsLineHere, HasRoom, IsAsTaken, IsReadyAgain, IsReadyIn};
 ghost use Rattle.hp_proc.specs.LineTrees.{doing_held, doing_named};
 ghost use Rattle.hp_proc.specs.MarksInHand.{HoldsNamedMarked, KeepsMarked};
 ghost use Rattle.hp_proc.specs.NamesInHand.{DoesNamed, DoesNamedHeld, DoesNamedOnce, HaltsNamed, HaltsNamedHeld, HaltsNamedOnce, IsIndexMeant, IsReadyNamed};
 ghost use Rattle.hp_serve.specs.Clocks.{RisesWithin};
-ghost use Rattle.hp_zone.specs.Directory.{IsDirectory};
 
 use super::Participant;
 use super::chunk_lines::left_answer;
 use super::memory_lines::{destroy_answer, made_answer};
+use super::names::are_sound;
 use hp_base::Mapper;
 use hp_external::{ChunkFault, CreateFault, NameFault, chunk_heap, external_heap, place_for};
 use hp_hall::Waiting;
@@ -71,9 +71,10 @@ fn place_meant(names: &Names, text: &[u8]) -> Result<u32, Answer>
 
 // The index of the external heap of that name, or the line's answer.
 fn heap_meant(names: &Names, text: &[u8]) -> Result<u32, Answer>
-    ensures heap { IfOk result (λ index. IsMeant names.now.heaps.plain text.now index) }
+    ensures heap { IfOk result (IsNamedHeap names.now.heaps.plain text.now) }
     ensures refused { IfErr result (IsNameAnswer names.now.heaps.plain text.now) }
 {
+    are_sound(names);
     match external_heap(&names.heaps, text) {
         Ok((index, _socket)) => Ok(index),
         Err(fault) => Err(name_answer(fault)),
@@ -82,9 +83,10 @@ fn heap_meant(names: &Names, text: &[u8]) -> Result<u32, Answer>
 
 // The index of the heap of that name whose chunks may be attached, or the line's answer.
 fn chunks_meant(names: &Names, text: &[u8]) -> Result<u32, Answer>
-    ensures heap { IfOk result (λ index. IsMeant names.now.heaps.plain text.now index) }
+    ensures heap { IfOk result (IsMeant names.now.heaps.plain text.now) }
     ensures refused { IfErr result (IsChunkAnswer names.now.heaps.plain text.now) }
 {
+    are_sound(names);
     match chunk_heap(&names.heaps, text) {
         Ok(index) => Ok(index),
         Err(fault) => Err(chunk_answer(fault)),
@@ -94,7 +96,6 @@ fn chunks_meant(names: &Names, text: &[u8]) -> Result<u32, Answer>
 // The index of the heap that a line on external heaps means, or the line's answer where it means none.
 fn index_meant(names: &Names, act: &Act<'_>) -> Result<u32, Answer>
     requires external { IsExternalAct act.now }
-    requires sound { IsDirectory names.now.heaps }
     ensures { IsHeapMeant act.now names.now.heaps.plain result }
 {
     match act {
@@ -118,6 +119,8 @@ impl<'p, M: Mapper, F: Decide + Copy + Drop> Participant<'p, M, F> {
         act: &Act<'_>,
     ) -> Result<Answer, AllocError>
         requires external { IsExternalAct act.now }
+        requires attached { self.old.context.standing.attached ≡ true }
+        requires as_taken { IsAsTaken (H.state hall.old).taken heap.old }
         requires holds { HoldsNamedMarked self.old.party.me self.old names.old heap.old (H.state hall.old) }
         requires meant { IsIndexMeant act.now names.old.heaps.plain heap.old.plain.index }
         requires serves { heap.old.plain.serves ≡ None }
@@ -169,6 +172,7 @@ impl<'p, M: Mapper, F: Decide + Copy + Drop> Participant<'p, M, F> {
         index: u32,
     ) -> Result<Answer, AllocError>
         requires external { IsExternalAct act.now }
+        requires attached { self.old.context.standing.attached ≡ true }
         requires few { index < MAX_HEAPS }
         requires meant { IsIndexMeant act.now names.old.heaps.plain index }
         requires ready { IsReadyNamed self.old.party.me self.old names.old (H.state hall.old) }
@@ -194,6 +198,7 @@ impl<'p, M: Mapper, F: Decide + Copy + Drop> Participant<'p, M, F> {
         act: &Act<'_>,
     ) -> Result<Answer, AllocError>
         requires external { IsExternalAct act.now }
+        requires attached { self.old.context.standing.attached ≡ true }
         requires ready { IsReadyNamed self.old.party.me self.old names.old (H.state hall.old) }
         ensures does { IfOk result (λ given. DoesNamedOnce self.old.party.me self.old self.new names.old names.new (H.state hall.old)
             (H.state hall.new) (doing_named self.old.party.me self.old.context.pools act.now (shared_of names.old)) (Doing.Ended given)) }

@@ -6,12 +6,11 @@ ghost use Rattle.hp_serve.specs.Clocks.{RisesWithin};
 ghost use Rattle.hp_hall.specs.declared.slot.TheConstants.{NAMES_SLOT};
 ghost use Rattle.hp_heap.specs.PlainHeap.{PlainHeap};
 ghost use Rattle.hp_proc.specs.Doing.{Doing};
-ghost use Rattle.hp_proc.specs.ExternalLines.{seeing_heap};
 ghost use Rattle.hp_serve.specs.Party.{IsSameParty};
 ghost use Rattle.hp_proc.specs.Progress.{AreSettled, Does, IsInHand, IsTakenWith, MayDo, in_hand};
 ghost use Rattle.hp_hall.specs.HallState.{IsBusy, OthersStay, SlotsStayBut};
 ghost use Rattle.hp_proc.specs.HeldMarks.{HasMarksOf, IsTiedWith};
-ghost use Rattle.hp_proc.specs.LineInHall.{AreFreeBesideNames, HaltsHere, HasCalledBeside, HasRoom, HoldsHeap, IsFreeAt, IsReadyBut, MayGiveBeside, TableStays, did_in, moment, moment_with};
+ghost use Rattle.hp_proc.specs.LineInHall.{AreFreeBesideNames, HaltsHere, HasCalledBeside, HasRoom, HoldsHeap, IsFreeAt, IsReadyBut, MayGiveBeside, SeesHeap, TableStays, did_in, moment, moment_with};
 ghost use Rattle.hp_proc.specs.NamesInHand.{AgreesStill, KeepsAgreed, TakesAgreed};
 ghost use Rattle.hp_serve.specs.InHall.{IsTiedIn};
 
@@ -38,9 +37,7 @@ impl<'p, M: Mapper, F: Decide + Copy + Drop> Participant<'p, M, F> {
 
         // One for external memory may be handed over with its state, of which the line takes notice.
         ensures sees { IfOk result (λ held. held.0.plain.serves ≡ None → (goes : PlainHeap → Doing)
-            → Does (index ∷ []) (H.state hall.old).count (did_in self.old.party.me (H.state hall.old) (H.state hall.new))
-            (seeing_heap index goes) (goes held.0.plain)
-            (moment self.old.party.me self.old (H.state hall.old)) (moment_with held.0 self.old.party.me self.new (H.state hall.new))) }
+            → SeesHeap index self.old.party.me self.old self.new held.0 (H.state hall.old) (H.state hall.new) goes) }
         ensures halts { OnErr result ((doing : Doing) → HaltsHere (index ∷ []) self.old.party.me self.old self.new (H.state hall.old)
             (H.state hall.new) doing) }
         ensures hand { IfOk result (λ held. HoldsHeap index self.old.party.me self.new held.0 held.1 (H.state hall.new)) }
@@ -105,9 +102,7 @@ impl<'p, M: Mapper, F: Decide + Copy + Drop> Participant<'p, M, F> {
 
         // One for external memory may be handed over with its state, of which the line takes notice.
         ensures sees { IfOk result (λ held. held.0.plain.serves ≡ None → (goes : PlainHeap → Doing)
-            → Does (index ∷ []) (H.state hall.old).count (did_in self.old.party.me (H.state hall.old) (H.state hall.new))
-            (seeing_heap index goes) (goes held.0.plain)
-            (moment self.old.party.me self.old (H.state hall.old)) (moment_with held.0 self.old.party.me self.new (H.state hall.new))) }
+            → SeesHeap index self.old.party.me self.old self.new held.0 (H.state hall.old) (H.state hall.new) goes) }
         ensures halts { OnErr result ((doing : Doing) → HaltsHere (index ∷ []) self.old.party.me self.old self.new (H.state hall.old)
             (H.state hall.new) doing) }
         ensures hand { IfOk result (λ held. HoldsHeap index self.old.party.me self.new held.0 held.1 (H.state hall.new)) }

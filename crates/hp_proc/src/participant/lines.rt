@@ -189,6 +189,33 @@ impl<'p, M: Mapper, F: Decide + Copy + Drop> Participant<'p, M, F> {
         }
     }
 
+    // A line that neither comes nor goes nor awaits: who is not attached is answered so.
+    fn do_inside<H: Waiting>(
+        &mut self,
+        hall: &mut H,
+        line: &Line<'_>,
+    ) -> Result<Answer, AllocError>
+        requires own { line.now.participant ≡ self.old.party.me }
+        requires next { IsNextLine self.old.context line.now }
+        requires inside { IsInside line.now.act }
+        requires ready { IsReadyIn self.old.party.me self.old (H.state hall.old) }
+        ensures does { IfOk result (λ given. DoesLineHere self.old.party.me self.old self.new (H.state hall.old)
+            (H.state hall.new) line.now given) }
+        ensures halts { OnErr result (HaltsLineHere self.old.party.me self.old self.new (H.state hall.old)
+            (H.state hall.new) line.now) }
+        ensures lies { IfOk result (λ given. Allocates line.now.act → IsMapped self.new.party given) }
+        ensures clock { RisesWithin H.pending (λ hall. IsBusy (H.state hall)) (2 ^ 40) (H.state hall.old).clock (H.state hall.new).clock }
+        ensures ready { IsReadyAgain self.old.party.me self.old self.new (H.state hall.new) }
+        ensures goes_on { H.goes_on hall.old hall.new }
+    {
+        if !self.context.attached {
+            return Ok(Answer::Detached);
+        }
+        // How long it waits at most is handed out with its deadline.
+        let _deadline = self.server().deadline();
+        self.do_attached(hall, line)
+    }
+
     /// Does one of its lines, and gives the answer: an allocation, a free, a resize, a memzone that is reserved, found or freed, statistics
     /// with the heap's lock or without it, an attach or a detach, what makes, fills, attaches and destroys external heaps, what registers or
     /// unregisters a watcher or a validator, and a wait for the first lines of another one. It holds no slot before and after. Where memory
@@ -220,16 +247,10 @@ impl<'p, M: Mapper, F: Decide + Copy + Drop> Participant<'p, M, F> {
         ensures goes_on { H.goes_on hall.old hall.new }
     {
         match &line.act {
-            Act::Attach => return self.do_attach(hall, line),
-            Act::Detach => return self.do_detach(hall, line),
-            Act::Await { other, lines } => return self.do_await(hall, line, *other, *lines),
-            _ => {}
+            Act::Attach => self.do_attach(hall, line),
+            Act::Detach => self.do_detach(hall, line),
+            Act::Await { other, lines } => self.do_await(hall, line, *other, *lines),
+            _ => self.do_inside(hall, line),
         }
-        if !self.context.attached {
-            return Ok(Answer::Detached);
-        }
-        // How long it waits at most is handed out with its deadline.
-        let _deadline = self.judged.server.deadline();
-        self.do_attached(hall, line)
     }
 }

@@ -9,13 +9,13 @@ ghost use Rattle.hp_proc.specs.Courses.{maker_from};
 ghost use Rattle.hp_proc.specs.Doing.{Doing};
 ghost use Rattle.hp_proc.specs.Freeing.{FitsTag, IsSizedWell, act_for, acting, after_looking, left_of, looking};
 ghost use Rattle.hp_proc.specs.LineTrees.{on_made};
-ghost use Rattle.hp_proc.specs.Lines.{Facts, reading_names};
+ghost use Rattle.hp_proc.specs.Lines.{Facts, is_own_maker, reading_names};
 ghost use Rattle.hp_proc.specs.PlaceLists.{place_list};
 ghost use Rattle.hp_proc.specs.SharedNames.{SharedNames};
 ghost use Rattle.hp_proc.specs.Progress.{AreOnce};
 ghost use Rattle.hp_proc.specs.declared.searched_heap.SearchedHeap.{SearchedHeap};
 ghost use Rattle.hp_hall.specs.HallState.{IsBusy, OthersStay};
-ghost use Rattle.hp_proc.specs.LineInHall.{DoesApartHere, DoesHeld, DoesHere, DoesOnceHere, FindsPlaces, HaltsHere, HasCalled, HasRoom, HoldsIn, IsReadyAgain, IsReadyIn, KeepsHeld};
+ghost use Rattle.hp_proc.specs.LineInHall.{DoesApartHere, DoesHeld, DoesHere, DoesOnceHere, FindsPlaces, HaltsHere, HasCalled, HasRoom, HoldsIn, IsReadyIn, KeepsHeld};
 
 use super::Participant;
 use crate::element_act::{ElementAct, Left};
@@ -183,9 +183,10 @@ impl<'p, M: Mapper, F: Decide + Copy + Drop> Participant<'p, M, F> {
         requires ready { IsReadyIn self.old.party.me self.old (H.state hall.old) }
         ensures does { IfOk result (λ places. FindsPlaces self.old.party.me self.old self.new (maker_from maker.now) (place_list places)
             (hall.new ≡ hall.old) (H.state hall.old) (H.state hall.new)) }
-        ensures halts { OnErr result ((goes : SharedNames → Doing) → HaltsHere [] self.old.party.me self.old self.new (H.state hall.old)
-            (H.state hall.new) (reading_names goes)) }
-        ensures ready { IsReadyAgain self.old.party.me self.old self.new (H.state hall.new) }
+        ensures halts { OnErr result ((is_own_maker self.old.party.me (maker_from maker.now) ≡ false)
+            × ((goes : SharedNames → Doing) → HaltsHere [] self.old.party.me self.old self.new (H.state hall.old)
+            (H.state hall.new) (reading_names goes))) }
+        ensures ready { HasCalled self.old.party.me self.old self.new (H.state hall.new) }
         ensures clock { RisesWithin H.pending (λ hall. IsBusy (H.state hall)) 0 (H.state hall.old).clock (H.state hall.new).clock }
         ensures goes_on { H.goes_on hall.old hall.new }
     {

@@ -10,10 +10,10 @@ ghost use Rattle.hp_heap.specs.History.{IsCall};
 ghost use Rattle.hp_heap.specs.declared.entry.HeapAnswer.TheVariants as gives;
 ghost use Rattle.hp_heap.specs.declared.entry.HeapCall.TheVariants as call;
 ghost use Rattle.hp_proc.specs.Doing.{Doing};
-ghost use Rattle.hp_proc.specs.ExternalAnswers.{IsAddSaid, IsMadeSaid, IsMeant, destroy_said, remove_said};
+ghost use Rattle.hp_proc.specs.ExternalAnswers.{IsAddSaid, IsMadeSaid, IsNamedHeap, destroy_said, remove_said};
 ghost use Rattle.hp_proc.specs.ExternalLines.{planning, removing};
 ghost use Rattle.hp_proc.specs.HeldLines.{DestroysHeap, MakesHeap};
-ghost use Rattle.hp_proc.specs.LineInHall.{HasRoom};
+ghost use Rattle.hp_proc.specs.LineInHall.{HasRoom, IsAsTaken};
 ghost use Rattle.hp_proc.specs.MarksInHand.{HoldsNamedMarked, KeepsMarked};
 ghost use Rattle.hp_proc.specs.NamesInHand.{DoesNamedHeld, HaltsNamedHeld, StandsStill};
 ghost use Rattle.hp_proc.specs.ParticipantView.{after_call};
@@ -164,7 +164,7 @@ impl<'p, M: Mapper, F: Decide + Copy + Drop> Participant<'p, M, F> {
     ) -> Result<Answer, AllocError>
         requires holds { HoldsNamedMarked self.old.party.me self.old names.old heap.old (H.state hall.old) }
         requires named { IsThatHeap names.old.heaps.plain text.now heap.old.plain }
-        requires meant { IsMeant names.old.heaps.plain text.now heap.old.plain.index }
+        requires meant { IsNamedHeap names.old.heaps.plain text.now heap.old.plain.index }
         requires room { HasRoom 1 heap.old self.old }
         ensures does { IfOk result (λ given. DoesNamedHeld self.old.party.me self.old self.new names.old names.new heap.old heap.new
             (H.state hall.old) (H.state hall.new) (planning addr len page heap.old.plain.index heap.old.plain.socket) (Doing.Ended given)) }
@@ -201,9 +201,10 @@ impl<'p, M: Mapper, F: Decide + Copy + Drop> Participant<'p, M, F> {
         addr: u64,
         len: u64,
     ) -> Answer
+        requires as_taken { IsAsTaken (H.state hall.old).taken heap.old }
         requires holds { HoldsNamedMarked self.old.party.me self.old names.old heap.old (H.state hall.old) }
         requires named { IsThatHeap names.old.heaps.plain text.now heap.old.plain }
-        requires meant { IsMeant names.old.heaps.plain text.now heap.old.plain.index }
+        requires meant { IsNamedHeap names.old.heaps.plain text.now heap.old.plain.index }
         requires room { HasRoom 1 heap.old self.old }
         ensures does { DoesNamedHeld self.old.party.me self.old self.new names.old names.new heap.old heap.new
             (H.state hall.old) (H.state hall.new) (removing heap.old.plain.index addr len heap.old.plain (chunk_at addr len heap.old.plain)) (Doing.Ended result) }

@@ -7,13 +7,13 @@ ghost use Rattle.hp_zone.specs.Zones.{IsFound};
 ghost use Rattle.hp_proc.specs.Courses.{searched_heap_at};
 ghost use Rattle.hp_proc.specs.Freeing.{left_of};
 ghost use Rattle.hp_proc.specs.Handing.{shared_of};
-ghost use Rattle.hp_proc.specs.LineInHall.{DoesLineHere, HaltsLineHere, HasRoom, IsReadyAgain, IsReadyIn};
-ghost use Rattle.hp_proc.specs.NamesInHand.{DoesNamed, DoesNamedHeld, DoesNamedOnce, HaltsNamed, HaltsNamedOnce, HasCalledNamed, HoldsNamed, IsReadyNamed, KeepsNamed};
-ghost use Rattle.hp_proc.specs.ParticipantView.{with_calls};
+ghost use Rattle.hp_proc.specs.LineInHall.{DoesLineHere, HaltsLineHere, HasRoom, HoldsIn, IsReadyAgain, IsReadyIn};
+ghost use Rattle.hp_proc.specs.NamesInHand.{DoesNamed, DoesNamedHeld, DoesNamedOnce, HaltsNamed, HaltsNamedOnce, HasCalledNamed, HasNamesBeside, IsReadyNamed, KeepsNamed};
 ghost use Rattle.hp_proc.specs.SharedNames.{zone_named};
 ghost use Rattle.hp_proc.specs.ZoneLines.{freeing_zone};
 
 use super::Participant;
+use super::names::are_sound;
 use crate::element_act::Left;
 use crate::searched_heap::SearchedHeap;
 use hp_base::Mapper;
@@ -37,7 +37,8 @@ impl<'p, M: Mapper, F: Decide + Copy + Drop> Participant<'p, M, F> {
         place: &SearchedHeap,
         zone: &Zone,
     ) -> Left
-        requires holds { HoldsNamed self.old.party.me self.old names.old heap.old (H.state hall.old) }
+        requires holds { HoldsIn self.old.party.me self.old heap.old (H.state hall.old) }
+        requires names { HasNamesBeside self.old.party.me self.old names.old heap.old (H.state hall.old) }
         requires found { IsFound names.old.zones.zones zone.now.name zone.now }
         requires its { place.now ≡ searched_heap_at self.old.context.pools heap.old.plain.index }
         requires there { zone.now.heap ≡ heap.old.plain.index }
@@ -46,10 +47,10 @@ impl<'p, M: Mapper, F: Decide + Copy + Drop> Participant<'p, M, F> {
             (H.state hall.old) (H.state hall.new) (freeing_zone (searched_heap_at self.old.context.pools) (Some zone.now))
             (left_of zone.now.heap result) }
         ensures keeps { KeepsNamed self.old.party.me self.old self.new names.new heap.old heap.new (H.state hall.old) (H.state hall.new) }
-        ensures called { self.new.context ≡ with_calls self.new.context.calls self.old.context }
         ensures goes_on { H.goes_on hall.old hall.new }
     {
         let _gone = names.zones.remove(zone.name.as_bytes());
+        are_sound(names);
         self.free_zone_in(heap, zone.addr);
         self.cut_held(hall, heap, place, zone.addr)
     }

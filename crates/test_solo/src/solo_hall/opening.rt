@@ -1,8 +1,9 @@
 //! Halls of two participants, who are both there.
-ghost use Rattle.std.specs.Prelude.{◌≡◌, ◌<◌, ℕ, IfOk, OnOk, length, true};
+ghost use Rattle.std.specs.Prelude.{◌≡◌, ◌<◌, ℕ, [], IfOk, OnOk, length, true};
 ghost use Rattle.hp_base.specs.declared.limits.TheConstants.{MAX_HEAPS};
 ghost use Rattle.hp_plain.specs.HallView.{IsHome, joined_in, own_at, slot_at};
 ghost use Rattle.hp_serve.specs.Tied.{nothing_yet};
+ghost use Rattle.hp_solo.specs.Solo.{marked_at};
 ghost use Rattle.hp_solo.specs.SoloAsks.{IsOpening, MayBeginToAsk};
 
 use crate::tests::{member, no_limits, plain_hall};
@@ -22,6 +23,7 @@ fn come<'p>(
     requires two { length hall.old.plain.owns ≡ 2 }
     requires nothing_yet { own_at hall.old.plain me ≡ nothing_yet }
     requires joined { joined_in hall.old.plain me ≡ true }
+    requires unmarked { (heap : ℕ) → marked_at hall.old.plain me heap ≡ [] }
     ensures { OnOk result (hall.new.plain ≡ hall.old.plain) }
 {
     let server = member(alloc, me, plan)?;

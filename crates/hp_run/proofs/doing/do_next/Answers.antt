@@ -1,20 +1,18 @@
 -- One of the participants goes away for its line, and comes back.
-use Rattle.std.proofs.Common.{◌≡◌, ◌∙◌, ℕ, ◌+◌, ◌<◌, ◌==◌, List, [], ◌∷◌, ◌++◌, Bool, length, set, take, Option, Some, None, refl, ap, sym, subst, arith}
+use Rattle.std.proofs.Common.{◌≡◌, ◌∙◌, ℕ, ◌+◌, ◌<◌, ◌==◌, List, [], ◌∷◌, ◌++◌, Bool, false, length, set, take, Option, Some, None, refl, ap, sym, subst, arith}
 use Rattle.std.specs.List.{slice_get}
 use Rattle.std.specs.Option.{option_map}
 use Rattle.std.proofs.lemmas.List.{length-map, length-take-le, take_more}
 use Rattle.std.proofs.lemmas.List.Sums.{count_by-le-length, length-filter}
 use Rattle.std.proofs.lemmas.Option.{same_Some, slice_get_within}
 use Rattle.hp_base.specs.declared.limits.TheConstants.{MAX_LINES}
-use Rattle.hp_hall.specs.HallState.{Did, HallState, IsBusy}
+use Rattle.hp_hall.specs.HallState.{Did, HallState}
 use Rattle.hp_hall.specs.Mail.{MailStep}
-use Rattle.hp_hall.specs.Measures.{pending_at}
 use Rattle.hp_events.specs.declared.validator.Validator.{Validator}
 use Rattle.hp_plain.specs.HallView.{HallView, heard_in, joined_in, lines_at, own_at, part_in, seen_in}
 use Rattle.hp_script.specs.declared.answer.Answer.{Answer}
 use Rattle.hp_script.specs.declared.line.Line.{Line}
 use Rattle.hp_script.specs.declared.workload.Workload.{Workload}
-use Rattle.hp_serve.specs.Clocks.{IsOneClock}
 use Rattle.hp_serve.specs.Party.{Party}
 use Rattle.hp_serve.specs.Tied.{IsTied}
 use Rattle.hp_serve.specs.Watched.{names_of}
@@ -24,7 +22,6 @@ use Rattle.hp_proc.specs.LinesDone.{Course}
 use Rattle.hp_proc.specs.OwnChunks.{AreMarkedAs}
 use Rattle.hp_proc.specs.ParticipantView.{ParticipantView, knowing, participant_of}
 use Rattle.hp_proc.specs.Progress.{DoesLine, MayComeAndGo, MayDo, Moment, moment_of}
-use Rattle.hp_serve.proofs.Rising.{one_clock}
 use Rattle.hp_solo.specs.Solo.{IsAway, IsTiedFor, SoloView, limits_at, limits_in, limits_of, party_of, server_at, with_party}
 use Rattle.hp_solo.specs.SoloState.{solo_state}
 use Rattle.thm_run.specs.EndLaws.{tells_one_more}
@@ -41,12 +38,6 @@ use Rattle.hp_run.proofs.ReasonLemmas.{may_run_lines}
 use Rattle.hp_run.proofs.Returning.{IsBackFrom}
 use Rattle.hp_run.proofs.SummaryLemmas.{counted_on}
 use Rattle.hp_run.proofs.doing.do_next.Goals as goal
-
--- the clock of one thread
-solo_clock : IsOneClock {T = SoloView} pending_at (λ hall. IsBusy (solo_state hall))
-solo_clock =
-    let one : IsOneClock {T = SoloView} pending_at (λ hall. ⊥) = one_clock in
-    record { reads = one.reads; free = λ hall busy. busy.2 }
 
 -- who is at its place with its validators, and took along what its lines left, knows what these left
 knows_so : (workload : Workload) (lines : List Line) (answers : List Answer) (hall : SoloView) (done : HaveDoneLines workload lines answers hall)
@@ -314,6 +305,10 @@ returns g c =
           always.ready.ready.ready;
       tied = subst (λ (me : ℕ). IsTied (seen_in back.plain) (own_at back.plain me) (λ (heap : ℕ). (part_in back.plain me heap).marked)
           after.party.joined after.party.maps) number always.ready.ready.idle.tied.table;
+      left = subst (λ (me : ℕ). after.party.joined ≡ false → (heap : ℕ) → (part_in back.plain me heap).marked ≡ []) number
+          always.ready.ready.idle.tied.left;
+      chunks = subst (λ (me : ℕ). (heap : ℕ) → AreMarkedAs heap (part_in back.plain me heap).marked after.context.standing.chunks) number
+          always.ready.ready.chunks;
       told = subst (λ (me : ℕ). lines_at back.plain me ≡ lines_at away.plain me + 1) number did.lines;
       same = always.ready.same;
       free = always.ready.ready.idle.free;
@@ -332,7 +327,7 @@ returns g c =
       gone_here = c.away.ensures.place;
       gone_plain = c.away.ensures.plain;
       course = always.goes_on;
-      rises = always.clock solo_clock;
+      rises = always.clock;
       me = ap (λ (party : Party). party.me) parts.ensures.server ∙ always.ready.same.me ∙ number;
       here = c.back.ensures.party;
       came = c.back.ensures.place

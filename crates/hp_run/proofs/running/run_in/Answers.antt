@@ -2,14 +2,17 @@
 use Rattle.std.proofs.Common.{List, [], sym, subst}
 use Rattle.hp_plain.specs.HallView.{HallView, IsHall}
 use Rattle.hp_plain.specs.Opening.{AreHome, HandsOut}
+use Rattle.hp_proc.specs.Handing.{shared_of}
 use Rattle.hp_proc.specs.LinesDone.{Course}
+use Rattle.hp_proc.specs.OneThread.{AreHandedInOrder}
+use Rattle.hp_proc.specs.RunEnds.{EndsWithNames}
 use Rattle.thm_run.specs.Drops.{DropsComeFirst}
 use Rattle.thm_run.specs.Freed.{AreShown}
 use Rattle.thm_run.specs.Handing.{AreJudged, AreOfLinesBefore, HaveStatistics, HaveWatchers, WatchersHaveGrants, listeners_in}
 use Rattle.thm_causes.specs.Notices.{NoticesAreHeard}
 use Rattle.hp_run.specs.Running.{HaveDoneLines}
 use Rattle.hp_run.proofs.Coming.{given_by}
-use Rattle.hp_run.proofs.Ending.{all_in, at_end, came_by, ends_so, first_sound, leave_listeners, names_agree, names_there, segs_there}
+use Rattle.hp_run.proofs.Ending.{all_in, at_end, came_by, ends_so, first_sound, leave_listeners, names_agree, names_opened, names_sound, segs_there}
 use Rattle.hp_run.proofs.FailureLemmas.{fail_so}
 use Rattle.hp_run.proofs.LevelLemmas.{level_so}
 use Rattle.hp_run.proofs.ReasonLemmas.{may_run, notices_so, reasons_so}
@@ -61,10 +64,16 @@ returns g c =
     let ended =
     ends_so workload answers last done heaps left.segs left.names out tables c.end_law.ensures given sound c.in_ok-tables.ensures.tables in
     let at_the_end = at_end workload answers last done heaps left.segs left.names out tables sound c.in_ok-tables.ensures.tables in
+    let names =
+    c.names_end_law.ensures workload done.courses answers done.parties last.plain heaps left.segs tables given done.so_far at_the_end
+    done.counted in
     let leave = leave_listeners workload answers last done heaps left.segs left.names out watchers c.in_ok-tables.ensures.watchers in
     record {
       end = record {
         end = ended.0;
+        names_end = subst (λ (courses : List Course). EndsWithNames workload courses (shared_of left.names) heaps left.segs tables) (sym ended.1)
+            names.0;
+        in_order = subst (λ (courses : List Course). AreHandedInOrder workload courses (shared_of left.names) heaps) (sym ended.1) names.1;
         notices = subst (λ (courses : List Course). NoticesAreHeard workload.plan.items courses left.segs.asks) (sym ended.1)
             (notices_so workload answers last left.segs c.requires.runnable c.notices_law.ensures done shown);
         drops = λ nothing.
@@ -88,7 +97,8 @@ returns g c =
         opens = first_sound workload answers last done;
       };
       names = record {
-        are = names_there workload answers last done heaps left.segs left.names out;
+        sockets = names_opened workload answers last done heaps left.segs left.names out;
+        sound = names_sound workload answers last done heaps left.segs left.names out;
         agreed = names_agree workload answers last done heaps left.segs left.names out sound;
       };
       counts = c.in_ok-answers.ensures.counts;

@@ -6,7 +6,6 @@ use Rattle.thm_causes.specs.Threads.{TimeoutsArePlanned}
 use Rattle.hp_run.specs.Ending.{AreAsMay, IsHeardEnd, AllCaughtUp, IsSoloRunEnd}
 use Rattle.hp_run.proofs.Coming.{first_stays, opens_so}
 use Rattle.hp_run.proofs.FailureLemmas.{named_all}
-use Rattle.hp_run.proofs.NamesInOrder.{names_in_order}
 use Rattle.hp_run.proofs.OpeningLemmas.{if_both, if_three}
 use Rattle.hp_run.proofs.WantLemmas.{wants_so}
 use Rattle.hp_run.proofs.running.run_lines.Goals as goal
@@ -28,11 +27,11 @@ returns-clause-end g c =
     if_both (λ left. TimeoutsArePlanned workload left.segs.asks)
     (λ left. LosesNothing workload.plan.items → AllCaughtUp left.segs left.tables.items) c.run_in.result c.run_in.ensures.timeouts
     c.run_in.ensures.all_caught_up in
-    if_three (λ left. IsHeardEnd workload left.answers.items left.heaps.items left.segs left.tables.items (listeners_in left.watchers.items))
+    if_three (λ left. IsHeardEnd workload left.answers.items left.heaps.items left.segs left.tables.items (listeners_in left.watchers.items) left.names)
     (λ left. AreAsMay workload servers left.answers.items left.segs)
     (λ left. TimeoutsArePlanned workload left.segs.asks
     × (LosesNothing workload.plan.items → AllCaughtUp left.segs left.tables.items))
-    (λ left. IsSoloRunEnd workload mappers left.answers.items left.heaps.items left.segs left.tables.items (listeners_in left.watchers.items))
+    (λ left. IsSoloRunEnd workload mappers left.answers.items left.heaps.items left.segs left.tables.items (listeners_in left.watchers.items) left.names)
     c.run_in.result
     (λ left heard named by_plan.
     let end = heard.end in
@@ -40,7 +39,7 @@ returns-clause-end g c =
     record {
       run = record {
         end = end.end;
-        handed_names = λ who. names_in_order workload end.end.courses heard.counted who;
+        names_end = heard.names_end;
         watched = heard.watched;
         statistics = heard.statistics;
         named = are_named;
@@ -58,6 +57,7 @@ returns-clause-end g c =
           answering = c.restoring_law.ensures.at_end workload left.answers.items left.heaps.items left.segs left.tables.items end.end;
         };
       };
+      in_order = heard.in_order;
       alone = end.alone;
       timeouts = by_plan.0;
       all_caught_up = by_plan.1;

@@ -1,8 +1,8 @@
 -- An allocation line whose request is refused, and one whose request is served.
-use Rattle.std.proofs.Common.{sym}
-use Rattle.hp_proc.proofs.AllocFacts.{line_refused}
+use Rattle.std.proofs.Common.{refl, sym}
 use Rattle.hp_hall.proofs.HallStates.{did_same}
 use Rattle.hp_proc.specs.LineInHall.{did_in, moment}
+use Rattle.hp_proc.proofs.AllocLines.{line_refused}
 use Rattle.hp_proc.proofs.HandFacts.Holds.{again_line}
 use Rattle.hp_proc.proofs.participant.Participant.do_alloc.Goals as goal
 
@@ -13,7 +13,7 @@ returns-in-Err-clause-does g c =
     let me = doer.party.me in
     let at = moment me doer hall in
     let label = c.requires.act in
-    line_refused c.args.line.now label.0 c.args.size c.args.options.now label.1 at c.requires.attached hall.count
+    line_refused c.args.line.now label.0 c.args.size c.args.options.now label.1 at c.requires.attached refl hall.count
     (did_in me hall hall) c.in-Err.kind (sym c.in-Err.ensures.refused) (did_same me hall)
 
 pub serve_line-requires-clause-asks : goal.serve_line-requires-clause-asks

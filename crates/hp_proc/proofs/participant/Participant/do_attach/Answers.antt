@@ -1,5 +1,5 @@
 -- One that is attached already does nothing; else it has caught up, or tried to, and notes what that left.
-use Rattle.std.proofs.Common.{◌∙◌, ◌||◌, Bool, [], ◌∷◌, None, ap, inr, refl, sym, subst}
+use Rattle.std.proofs.Common.{◌∙◌, ◌||◌, Bool, [], ◌∷◌, None, ap, inr, map, refl, sym, subst}
 use Rattle.hp_hall.specs.Holding.{HeapPart}
 use Rattle.hp_proc.specs.LineTrees.{doing_of}
 use Rattle.hp_proc.specs.Progress.{MayDo}
@@ -12,16 +12,19 @@ use Rattle.hp_script.specs.declared.answer.Answer.TheVariants as answer
 use Rattle.hp_proc.specs.Contexts.{Context}
 use Rattle.hp_proc.specs.Courses.{standing_tried}
 use Rattle.hp_proc.specs.ParticipantView.{ParticipantView}
-use Rattle.hp_proc.proofs.AttachedLines.{attached_same, joined_by, joined_still, line_already, line_tried, ready_noted, refused_failed, tried_chunks, tried_joined}
+use Rattle.hp_proc.proofs.AttachedLines.{attached_same, joined_by, joined_still, line_already, line_tried, refused_failed, tried_chunks, tried_joined}
+use Rattle.hp_proc.proofs.ChangedLines.{known_none, ready_noted}
 use Rattle.hp_proc.proofs.HandFacts.HandGiven.{ready_still}
 use Rattle.hp_hall.proofs.HallStates.{did_same}
-use Rattle.hp_script.specs.declared.line.Act.{Act}
-use Rattle.hp_proc.specs.Courses.{HasRequest}
-use Rattle.hp_proc.specs.Halting.{ActsOn, HaltsLine}
-use Rattle.hp_proc.proofs.Halted.{halts_by, halts_same}
-use Rattle.hp_proc.proofs.LineFacts.{facts_for, facts_known}
+use Rattle.hp_script.specs.declared.line.Act.TheVariants as act
+use Rattle.hp_proc.specs.Doing.{Doing}
+use Rattle.hp_proc.specs.Halting.{ActsOn}
+use Rattle.hp_proc.specs.Lines.{Facts}
+use Rattle.hp_proc.specs.OwnChunks.{own_chunk}
+use Rattle.hp_proc.proofs.Halted.{halts_by, line_halted, nothing_halts}
+use Rattle.hp_proc.proofs.LineFacts.{facts_for}
 use Rattle.hp_proc.proofs.HandFacts.OnceHeld.{once_none}
-use Rattle.hp_proc.specs.LineInHall.{ChangesRoster, did_in, moment}
+use Rattle.hp_proc.specs.LineInHall.{ChangesRoster, HaltsLineHere, did_in, moment}
 use Rattle.hp_proc.proofs.HandFacts.Holds.{changes_noted, changes_same}
 use Rattle.hp_proc.proofs.participant.Participant.do_attach.Goals as goal
 
@@ -126,16 +129,8 @@ returns-then-is_worn-clause-halts g c =
     let me = doer.party.me in
     let hall = g.H.Hall.state c.args.hall.now in
     let line = c.args.line.now in
-    let at = moment me doer hall in
-    let facts = facts_for doer.party.socket doer.context line.act None in
-    let halts : HaltsLine hall.count (did_in me hall hall) line at at = record {
-      facts = facts;
-      known = facts_known doer.party.socket doer.context line None (subst (λ (deed : Act). HasRequest deed None) (sym c.requires.act) tt);
-      heaps = [];
-      once = once_none;
-      halts = halts_same [] hall.count (did_in me hall hall) (doing_of line line.act facts) at (did_same me hall);
-    } in
-    halts
+    nothing_halts hall.count (did_in me hall hall) line (moment me doer hall) (facts_for doer.party.socket doer.context line.act None)
+    (did_same me hall) (known_none doer.party.socket doer.context line act.Attach c.requires.act tt) refl
 
 -- nor did one for whose watchers there was no room: it looked at the segment value
 pub returns-in_err-caught-clause-halts : goal.returns-in_err-caught-clause-halts
@@ -147,19 +142,20 @@ returns-in_err-caught-clause-halts g c =
     let line = c.args.line.now in
     let is = c.in_err-caught.ensures.err in
     let stays = c.attach.ensures.stays in
-    let facts = facts_for doer.party.socket doer.context line.act None in
+    let facts : Facts = facts_for doer.party.socket doer.context line.act None in
     let segs = is.2.segs in
-    let halts : HaltsLine old.count (did_in me old new) line (moment me doer old) (moment me doer new) = record {
-      facts = facts;
-      known = facts_known doer.party.socket doer.context line None (subst (λ (deed : Act). HasRequest deed None) (sym c.requires.act) tt);
-      heaps = [];
-      once = once_none;
-      halts = halts_by [] old.count (did_in me old new) (doing_of line line.act facts) (moment me doer old) (moment me doer new)
+    let tree : Doing = doing_of line line.act facts in
+    let halts : HaltsLineHere me doer doer old new line =
+    line_halted old.count (did_in me old new) line (moment me doer old) (moment me doer new) facts
+    (known_none doer.party.socket doer.context line act.Attach c.requires.act tt) tree refl refl (
+      [],
+      once_none,
+      halts_by [] old.count (did_in me old new) tree (moment me doer old) (moment me doer new)
           (takes_segments segs ∷ gives_segments segs ∷ []) is.2.did (ActsOn.attaches_not doer segs is.1)
-          (λ heap. ap (λ (part : HeapPart). part.entries) (stays.part heap)) (same_party doer.party) refl;
-    } in
+          (λ heap. ap (λ (part : HeapPart). part.entries) (stays.part heap)) (same_party doer.party) refl,
+    ) in
     on_err_any c.from_residual.result _
-    (subst (λ (after : ParticipantView). HaltsLine old.count (did_in me old new) line (moment me doer old) (moment me after new)) (sym is.0) halts)
+    (subst (λ (after : ParticipantView). HaltsLineHere me doer after old new line) (sym is.0) halts)
 
 pub returns-in_err-caught-clause-ready : goal.returns-in_err-caught-clause-ready
 returns-in_err-caught-clause-ready g c = λ ready.
@@ -190,6 +186,7 @@ returns-in_err-caught-clause-changes g c =
       tied = subst (λ (after : ParticipantView). IsTiedIn doer.party.me after.party new) is.0 c.attach.ensures.tied;
       attached = is.2.joined ∙ c.requires.may.attached;
       pools = refl;
+      chunks = λ noted heap. ap (map (own_chunk heap)) (ap (λ (part : HeapPart). part.marked) (stays.part heap)) ∙ noted heap;
       slots = stays.slots;
       others = stays.others;
     })

@@ -12,15 +12,14 @@ use Rattle.hp_script.specs.declared.line.Act.{Act}
 use Rattle.hp_script.specs.declared.line.Act.TheVariants as act
 use Rattle.hp_script.specs.declared.line.Line.{Line}
 use Rattle.hp_script.specs.Part.{Part}
-use Rattle.hp_proc.specs.LineTrees.{doing_of}
-use Rattle.hp_proc.specs.Courses.{HasRequest}
+use Rattle.hp_proc.specs.LineTrees.{doing_of, on_made}
+use Rattle.hp_proc.specs.Courses.{HasLineRequest}
 use Rattle.hp_proc.specs.Doing.{Doing}
 use Rattle.hp_proc.specs.Freeing.{acting, act_for, if_sized, looking, resize_refusal, resizing_to}
-use Rattle.hp_proc.specs.Lines.{Facts, if_attached, on_element}
-use Rattle.hp_proc.specs.Progress.{DoesLine, DoesOnce}
+use Rattle.hp_proc.specs.Lines.{Facts, if_attached}
+use Rattle.hp_proc.specs.Progress.{DoesApart, DoesLine}
 use Rattle.hp_serve.proofs.AskingFacts.AskedAlong.{if_ok}
-use Rattle.hp_proc.proofs.Joining.{does_same}
-use Rattle.hp_proc.proofs.LineFacts.{done_once, facts_for, facts_known, line_done}
+use Rattle.hp_proc.proofs.LineFacts.{apart_same, facts_for, facts_known, line_done}
 use Rattle.hp_hall.proofs.HallStates.{did_same}
 use Rattle.hp_proc.proofs.Halted.{line_halted}
 use Rattle.hp_proc.specs.LineInHall.{did_in, moment}
@@ -43,7 +42,7 @@ not_refused size rounded is some most =
 module _ (line : Line) (who : ℕ) (label : Part) (size : ℕ) (facts : Facts) (own : line.participant ≡ who)
     (deed : line.act ≡ act.Resize label size) (attached : facts.attached ≡ true) where
   goes : Doing
-  goes = on_element line.participant facts (resizing_to size) facts.maker
+  goes = on_made line.participant facts (resizing_to size) facts.maker
 
   tree_is : (refusal : Option BadRequest) → resize_refusal size ≡ refusal → if_sized refusal goes ≡ doing_of line line.act facts
   unfolding doing_of goes
@@ -58,11 +57,11 @@ module _ (line : Line) (who : ℕ) (label : Part) (size : ℕ) (facts : Facts) (
 
   -- and where it is not
   resizes : (rounded : ℕ) → rounded ≡ rounded_size size → resize_refusal size ≡ None
-      → on_element who facts (λ tag. looking tag (acting (act_for tag.zone (Some rounded)))) facts.maker ≡ doing_of line line.act facts
+      → on_made who facts (λ tag. looking tag (acting (act_for tag.zone (Some rounded)))) facts.maker ≡ doing_of line line.act facts
   unfolding goes
   resizes rounded rounds is =
-      ap (λ (rounded : ℕ). on_element who facts (λ tag. looking tag (acting (act_for tag.zone (Some rounded)))) facts.maker) rounds
-      ∙ ap (λ (who : ℕ). on_element who facts (resizing_to size) facts.maker) (sym own) ∙ tree_is None is
+      ap (λ (rounded : ℕ). on_made who facts (λ tag. looking tag (acting (act_for tag.zone (Some rounded)))) facts.maker) rounds
+      ∙ ap (λ (who : ℕ). on_made who facts (resizing_to size) facts.maker) (sym own) ∙ tree_is None is
 
 pub act_on-requires-clause-size : goal.act_on-requires-clause-size
 act_on-requires-clause-size g c =
@@ -84,12 +83,12 @@ returns-in-Ok-clause-does g c =
     let behind = moment me after new in
     let facts = facts_for doer.party.socket doer.context line.act None in
     let known = facts_known doer.party.socket doer.context line None
-    (subst (λ (deed : Act). HasRequest deed None) (sym c.requires.act) tt) in
+    (subst (λ (deed : Act). HasLineRequest deed None) (sym c.requires.act) tt) in
     if_ok _ (λ given. DoesLine old.count (did_in me old new) line given before behind) c.act_on.result
     (λ given does. line_done old.count (did_in me old new) line given before behind facts deed known
-    (subst (λ (doing : Doing). DoesOnce old.count (did_in me old new) doing (Doing.Ended given) before behind)
+    (subst (λ (doing : Doing). DoesApart old.count (did_in me old new) doing (Doing.Ended given) before behind)
     (resizes line me c.args.label.now c.args.size facts c.requires.own c.requires.act c.requires.attached rounded is.0
-    (not_refused c.args.size rounded is.0 is.1 is.2)) (does facts known)) c.act_on.ensures.ready.context c.requires.act tt tt) c.act_on.ensures.does
+    (not_refused c.args.size rounded is.0 is.1 is.2)) (does facts known)) refl c.act_on.ensures.ready.context c.requires.act tt tt tt) c.act_on.ensures.does
 
 pub returns-in-Err-clause-does : goal.returns-in-Err-clause-does
 returns-in-Err-clause-does g c =
@@ -102,13 +101,12 @@ returns-in-Err-clause-does g c =
     let at = moment me doer hall in
     let facts = facts_for doer.party.socket doer.context line.act None in
     let known = facts_known doer.party.socket doer.context line None
-    (subst (λ (deed : Act). HasRequest deed None) (sym c.requires.act) tt) in
+    (subst (λ (deed : Act). HasLineRequest deed None) (sym c.requires.act) tt) in
     line_done hall.count (did_in me hall hall) line given at at facts deed known
-    (subst (λ (doing : Doing). DoesOnce hall.count (did_in me hall hall) doing (Doing.Ended given) at at)
+    (subst (λ (doing : Doing). DoesApart hall.count (did_in me hall hall) doing (Doing.Ended given) at at)
     (refuses line me c.args.label.now c.args.size facts c.requires.own c.requires.act c.requires.attached c.in-Err.kind c.in-Err.ensures)
-    (done_once hall.count (did_in me hall hall) (Doing.Ended given) (Doing.Ended given) at at
-    (does_same hall.count (did_in me hall hall) (Doing.Ended given) at (did_same me hall))))
-    refl c.requires.act tt tt
+    (apart_same hall.count (did_in me hall hall) (Doing.Ended given) at (did_same me hall)))
+    refl refl c.requires.act tt tt tt
 
 pub returns-in-Ok-clause-ready : goal.returns-in-Ok-clause-ready
 returns-in-Ok-clause-ready g c = c.act_on.ensures.ready.again
@@ -130,10 +128,10 @@ returns-in-Ok-clause-halts g c =
     let behind = moment me after new in
     let facts = facts_for doer.party.socket doer.context line.act None in
     let known = facts_known doer.party.socket doer.context line None
-    (subst (λ (deed : Act). HasRequest deed None) (sym c.requires.act) tt) in
+    (subst (λ (deed : Act). HasLineRequest deed None) (sym c.requires.act) tt) in
     on_err_weaker c.act_on.result
     (λ halts.
     line_halted old.count (did_in me old new) line before behind facts known _
     (resizes line me c.args.label.now c.args.size facts c.requires.own c.requires.act c.requires.attached rounded is.0
-    (not_refused c.args.size rounded is.0 is.1 is.2)) (halts facts known))
+    (not_refused c.args.size rounded is.0 is.1 is.2)) refl (halts facts known))
     c.act_on.ensures.halts

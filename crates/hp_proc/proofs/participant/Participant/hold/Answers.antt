@@ -7,13 +7,13 @@ use Rattle.hp_hall.proofs.HallStates.{did_same, did_then}
 use Rattle.hp_hall.specs.HallState.{HallState, SlotsStayBut}
 use Rattle.hp_hall.specs.Holding.{AgreeWith}
 use Rattle.hp_hall.specs.declared.slot.TheConstants.{NAMES_SLOT}
-use Rattle.hp_proc.specs.ExternalLines.{seeing_heap}
 use Rattle.hp_proc.specs.LineInHall.{AreFreeBesideNames, HoldsIn, IsBesideTheNames, IsReadyBut, MayGiveBeside, did_in, moment, moment_with}
 use Rattle.hp_proc.specs.NamesInHand.{KeepsAgreed, with_naming}
-use Rattle.hp_proc.specs.Progress.{AreSettled, Does, IsInHand, in_hand}
+use Rattle.hp_proc.specs.Progress.{AreSettled, Does, IsInHand}
 use Rattle.hp_proc.proofs.Halted.{halts_of, halts_same}
 use Rattle.hp_proc.proofs.HandFacts.BesideNames.{gives_beside, names_same}
-use Rattle.hp_proc.proofs.HandFacts.HandCalls.{does_spared, hand_spared, taken_with}
+use Rattle.hp_proc.proofs.HandFacts.HandCalls.{does_spared, hand_spared, spared_taken, taken_with}
+use Rattle.hp_proc.proofs.HandFacts.SeenHeap.{sees_spared}
 use Rattle.hp_proc.proofs.HandFacts.Holds.{knew_same, names_put, ready_put, spared_agrees, spared_holds}
 use Rattle.hp_proc.proofs.Joining.{does_then}
 use Rattle.hp_serve.proofs.Carrying.{same_party}
@@ -62,13 +62,12 @@ returns-in-Ok-clause-did g c = λ doing.
 pub returns-in-Ok-clause-sees : goal.returns-in-Ok-clause-sees
 returns-in-Ok-clause-sees g c = λ external goes.
     let same = c.reserve.ensures.same in
-    let before = moment c.args.self.now.party.me c.args.self.now (g.H.Hall.state c.args.hall.now) in
-    let after = moment c.args.self.now.party.me c.take_heap.new.self (g.H.Hall.state c.take_heap.new.hall) in
+    let me = c.args.self.now.party.me in
+    let old = g.H.Hall.state c.args.hall.now in
+    let new = g.H.Hall.state c.take_heap.new.hall in
     let was : c.in_ok-heap.heap.plain.serves ≡ None = sym (ap (λ (heap : PlainHeap). heap.serves) same.plain) ∙ external in
-    subst (λ (heap : PlainHeap). Does (c.args.index ∷ []) _ _ (seeing_heap c.args.index goes) (goes heap) before (in_hand c.reserve.new.self after))
-    (sym same.plain)
-    (does_spared c.in_ok-heap.heap c.reserve.new.self same after _ _ (seeing_heap c.args.index goes) (goes c.in_ok-heap.heap.plain) before
-    (c.in_ok-heap.ensures.sees was goes))
+    sees_spared c.in_ok-heap.heap c.reserve.new.self same c.args.index me c.args.self.now c.take_heap.new.self old new goes
+    (c.in_ok-heap.ensures.sees was goes)
 
 pub returns-in-Ok-clause-hand : goal.returns-in-Ok-clause-hand
 returns-in-Ok-clause-hand g c =
@@ -80,6 +79,7 @@ returns-in-Ok-clause-hand g c =
       index = ap (λ (heap : PlainHeap). heap.index) same.plain ∙ c.in_ok-heap.ensures.hand.index;
       taken_with = taken_with c.in_ok-heap.heap c.reserve.new.self (g.H.Hall.state c.take_heap.new.hall).taken
           (ap (λ (heap : PlainHeap). heap.index) same.plain) c.in_ok-heap.ensures.hand.taken_with;
+      as_taken = spared_taken c.in_ok-heap.heap c.reserve.new.self (g.H.Hall.state c.take_heap.new.hall).taken same c.in_ok-heap.ensures.hand.as_taken;
     }
 
 pub returns-in-Ok-clause-agreed : goal.returns-in-Ok-clause-agreed

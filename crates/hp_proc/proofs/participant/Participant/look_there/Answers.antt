@@ -1,5 +1,5 @@
 -- A heap is held, looked into and given back.
-use Rattle.std.proofs.Common.{◌≡◌, ◌∙◌, ℕ, List, [], ◌∷◌, Option, ap, sym, subst, arith}
+use Rattle.std.proofs.Common.{◌≡◌, ◌∙◌, ℕ, List, [], ◌∷◌, Option, ap, sym, subst, inl, arith}
 use Rattle.std.specs.Prelude.{slice_get}
 use Rattle.hp_heap.specs.History.{HeapView}
 use Rattle.hp_hall.specs.Holding.{HeapPart}
@@ -15,7 +15,10 @@ use Rattle.hp_proc.specs.Progress.{IsInHand, moment_of}
 use Rattle.hp_proc.specs.declared.searched_heap.SearchedHeap.{SearchedHeap}
 use Rattle.hp_serve.proofs.AskingFacts.AskedAlong.{on_err_any}
 use Rattle.hp_proc.specs.LineInHall.{HaltsHere, HoldsIn, moment, moment_with}
-use Rattle.hp_proc.proofs.HandFacts.Holds.{again_put, but_kept, does_next, holds_on, knew_same, ready_put, with_kept}
+use Rattle.hp_hall.specs.declared.slot.TheConstants.{NAMES_SLOT}
+use Rattle.hp_proc.proofs.HandFacts.BesideNames.{but_home, called_home}
+use Rattle.hp_proc.proofs.HandFacts.HeldBack.{back_then, beside_then, held_then, with_then}
+use Rattle.hp_proc.proofs.HandFacts.Holds.{does_next}
 use Rattle.hp_proc.proofs.participant.Participant.look_there.Goals as goal
 
 -- a place that was taken is that of the heap in hand
@@ -40,17 +43,24 @@ look_held-left-requires-clause-of_socket g c =
     c.in_ok-heap.heap c.args.place.now c.hold.ensures.context c.requires.place c.in_ok-heap.ensures.hand.index
     c.in_ok-heap.ensures.hand.holds.in_hand
 
+pub hold-requires-clause-ready : goal.hold-requires-clause-ready
+hold-requires-clause-ready g c = but_home c.requires.ready
+
+pub hold-requires-clause-beside : goal.hold-requires-clause-beside
+hold-requires-clause-beside g c = inl (c.requires.ready.idle.free NAMES_SLOT)
+
 pub put-requires : goal.put-requires
 put-requires g c =
-    let mid = g.H.Hall.state c.hold.new.hall in
-    let holds = subst (λ (who : ℕ). HoldsIn who c.hold.new.self c.in_ok-heap.heap mid) (sym c.hold.ensures.same.me)
-    c.in_ok-heap.ensures.hand.holds in
-    let held = holds_on c.look_held-left.ensures.keeps holds in
+    let hold = c.hold.ensures in
+    let hand = c.in_ok-heap.ensures.hand in
+    let keeps = c.look_held-left.ensures.keeps in
+    let held = held_then hold.same hold.context c.requires.place.few hold.slots hand keeps in
     record {
       serves = held.can.may.serves;
       in_hand = held.in_hand;
       settled = held.settled;
-      taken_with = with_kept c.look_held-left.ensures.keeps c.in_ok-heap.ensures.hand.taken_with;
+      taken_with = with_then hold.same hold.context c.requires.place.few hold.slots hand keeps;
+      beside = beside_then hold.same hold.context c.requires.place.few hold.slots hand keeps (inl (c.requires.ready.idle.free NAMES_SLOT));
     }
 
 pub returns : goal.returns
@@ -71,10 +81,9 @@ returns g c =
     let there : after.party.me ≡ me = is.keeps.remains.same.me ∙ here in
     let put = c.put.ensures in
     let took = c.in_ok-heap.ensures in
-    let held = holds_on is.keeps (subst (λ (who : ℕ). HoldsIn who holds heap second) (sym here) took.hand.holds) in
-    let ready =
-    ready_put after next held (but_kept (is.keeps.index ∙ took.hand.index) c.hold.ensures.slots is.keeps.remains.slots) put.marks put.tied put.ready
-    put.table put.free put.slots put.others in
+    let back =
+    back_then c.hold.ensures.same c.hold.ensures.context c.requires.place.few c.hold.ensures.slots took.hand is.keeps put.marks put.tied put.ready
+    put.table put.agreed put.free put.slots put.others in
     record {
       does = λ places.
           let doing : Doing = looking c.args.tag (acting c.args.action) (c.args.place.now ∷ places) in
@@ -84,15 +93,12 @@ returns g c =
           (took.did doing) (is.does places)) (put.does rest);
       halts = tt;
       clock = λ one. omega (arith, c.hold.ensures.clock one, is.others.clock, put.others.clock);
-      ready = again_put c.hold.ensures.same c.hold.ensures.context is.keeps ready;
+      ready = called_home c.requires.ready back;
       goes_on = g.met.H.Hall.goes_on_then _ _ _ c.hold.ensures.goes_on (g.met.H.Hall.goes_on_then _ _ _ is.goes_on put.goes_on);
     }
 
 pub returns-in_err-heap-clause-ready : goal.returns-in_err-heap-clause-ready
-returns-in_err-heap-clause-ready g c = record {
-  again = record { same = c.hold.ensures.same; ready = c.in_err-heap.ensures.err };
-  context = knew_same c.args.self.now.context c.hold.new.self.context c.hold.ensures.context;
-}
+returns-in_err-heap-clause-ready g c = called_home c.requires.ready c.in_err-heap.ensures.err
 
 pub returns-in_err-heap-clause-halts : goal.returns-in_err-heap-clause-halts
 returns-in_err-heap-clause-halts g c =

@@ -14,8 +14,7 @@ use Rattle.hp_proc.specs.Doing.{Doing}
 use Rattle.hp_proc.specs.Heaps.{sockets_of}
 use Rattle.hp_proc.specs.Halting.{Halts}
 use Rattle.hp_proc.specs.Doing.Done.{HeapSeen}
-use Rattle.hp_proc.specs.ExternalLines.{seeing_heap}
-use Rattle.hp_proc.specs.LineInHall.{HasCalledBeside, IsBesideTheNames, moment}
+use Rattle.hp_proc.specs.LineInHall.{HasCalledBeside, IsBesideTheNames, SeesHeap, moment}
 use Rattle.hp_proc.specs.Progress.{Does, in_hand, with_hand}
 use Rattle.hp_serve.proofs.AskingFacts.AskedAlong.{on_err_any}
 use Rattle.hp_serve.proofs.Carrying.{same_party}
@@ -115,14 +114,14 @@ returns-in-Ok g c =
           (Acts.takes_heap c.taking.self heap pen shown.few))
           entries serves was.stays.same was.context was.asked seen.0 seen.1 heard.0 heard.1);
       sees = λ external goes.
-          subst (λ (index : ℕ). Does (index ∷ []) old.count (λ (steps : List MailStep). Did me steps old new) (seeing_heap index goes)
-          (goes heap.plain) (moment me doer old) (in_hand heap (moment me c.taking.self new))) shown.index
-          (does_seen old.count (λ (steps : List MailStep). Did me steps old new) heap goes (moment me doer old)
+          subst (λ (index : ℕ). SeesHeap index me doer c.taking.self heap old new goes) shown.index
+          (let seen_as = does_seen old.count (λ (steps : List MailStep). Did me steps old new) heap goes (moment me doer old)
           (in_hand heap (moment me c.taking.self new)) steps external shown.sound did
           (Acts.and_then None None (Some heap.plain.index) [] (heap.plain.index ∷ []) doer c.taking.self c.taking.self []
           (HeapSeen heap.plain.index heap.history ∷ []) was.waited.0 (Takes heap.plain.index (Heap heap pen) ∷ []) was.waited.2
           (Acts.sees_heap c.taking.self heap pen shown.few))
-          entries serves was.stays.same was.context was.asked seen.0 seen.1 heard.0 heard.1);
+          entries serves was.stays.same was.context was.asked seen.0 seen.1 heard.0 heard.1 in
+          record { does = seen_as.0; history = heap.history; alone = seen_as.1 });
       hand = record {
         holds = record {
           can = record {
@@ -149,6 +148,7 @@ returns-in-Ok g c =
         };
         index = shown.index;
         taken_with = record { heap = heap; out = out };
+        as_taken = record { was = heap; pen = pen; out = out; same = refl; left = refl };
       };
       same = was.stays.same;
       context = was.context;
@@ -214,7 +214,7 @@ taking-preserved g c =
       stays = in_then so_far is.stays;
       context = is.context ∙ was.context;
       asked = is.asks.asked ∙ was.asked;
-      told = waited_told was.told (in_did was.stays (subst (λ (who : ℕ). Did who [] mid late) here tried.held.did)) one.0
+      told = waited_told c.args.self.now.party.me old mid late (g.H.Hall.state c.turn.new.hall) was.told (in_did was.stays (subst (λ (who : ℕ). Did who [] mid late) here tried.held.did)) one.0
           (turn_aside _ late.count (2 ^ 64 - 1) c.taking.self.party c.turn.new.self.party one.0 _ one.2) (in_did so_far one.1);
       goes_on = g.met.H.Hall.goes_on_then _ _ _ was.goes_on (g.met.H.Hall.goes_on_then _ _ _ tried.goes_on is.goes_on);
       clock = λ one. absurd (one.free c.try_take.new.self (c.args.index, _, tried.held.found));
@@ -251,7 +251,7 @@ returns-in_err-turn-in-Err g c =
     (λ heap. ap (λ (part : HeapPart). part.entries) (all.waits.parts.part heap)) all.same (is.context ∙ was.context) in
     let names : IsBesideTheNames me old new =
     names_stay all.waits.slots
-    (waited_told was.told (in_did was.stays (subst (λ (who : ℕ). Did who [] mid late) here tried.held.did)) one.0
+    (waited_told me old mid late new was.told (in_did was.stays (subst (λ (who : ℕ). Did who [] mid late) here tried.held.did)) one.0
     (turn_aside _ late.count (2 ^ 64 - 1) c.taking.self.party c.turn.new.self.party one.0 _ one.2) (in_did so_far one.1)) in
     let called : HasCalledBeside me doer c.turn.new.self old new = record {
       same = all.same;

@@ -13,7 +13,7 @@ use Rattle.hp_proc.specs.Acting.{Acts}
 use Rattle.hp_proc.specs.Contexts.{Context}
 use Rattle.hp_proc.specs.Doing.{Doing}
 use Rattle.hp_proc.specs.Heaps.{sockets_of}
-use Rattle.hp_proc.specs.LineInHall.{HaltsHere, IsReadyAgain, moment}
+use Rattle.hp_proc.specs.LineInHall.{HaltsHere, HasCalled, moment}
 use Rattle.hp_serve.proofs.AskingFacts.AskedAlong.{on_err_any}
 use Rattle.hp_proc.proofs.Halted.{halts_by, stops_more}
 use Rattle.hp_proc.proofs.HandFacts.HandGiven.{ready_still, waits_more}
@@ -179,7 +179,7 @@ returns-in_err-turn-in-Err g c =
     let new = g.H.Hall.state c.turn.new.hall in
     let so_far = in_then was.stays (in_others c.taking.self.party here tried.held.slots tried.held.mine tried.others.later (in_tied was.stays)) in
     let all = in_then so_far is.stays in
-    let again : IsReadyAgain me doer c.turn.new.self new = (again_by doer c.turn.new.self all (is.context ∙ was.context) c.requires.ready).again in
+    let again : HasCalled me doer c.turn.new.self new = again_by doer c.turn.new.self all (is.context ∙ was.context) c.requires.ready in
     let one = c.in_err-turn-in-Err.ensures.turned in
     let halts : (doing : Doing) → HaltsHere [] me doer c.turn.new.self old new doing =
     λ doing.

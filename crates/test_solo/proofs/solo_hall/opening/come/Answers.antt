@@ -7,4 +7,4 @@ pub back-requires-clause-tied : goal.back-requires-clause-tied
 back-requires-clause-tied c =
     rw c.in_ok-judged.ensures.ok
     (tied_first c.args.hall.now.plain c.args.me c.in_ok-server.server c.requires.nothing_yet
-    (c.requires.joined ∙ sym c.in_ok-server.ensures.joined) c.in_ok-server.ensures.number c.in_ok-server.ensures.tied)
+    (c.requires.joined ∙ sym c.in_ok-server.ensures.joined) c.requires.unmarked c.in_ok-server.ensures.number c.in_ok-server.ensures.tied)

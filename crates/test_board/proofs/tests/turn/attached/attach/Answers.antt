@@ -1,4 +1,5 @@
 use Rattle.std.proofs.Common.{rules, ◌≡◌, ◌∙◌, [], true, refl, ap, lit<}
+use Rattle.hp_hall.specs.Naming.{Naming}
 use Rattle.hp_board.proofs.KeptAt.{is_heap}
 use Rattle.test_board.proofs.ZoneLemmas.{heap_given, heap_gives, sits_heap}
 use Rattle.test_board.proofs.ZoneHands.{hand_claimed, in_hand}
@@ -19,7 +20,7 @@ give-requires-clause-gives g c =
     (in_hand was.mine c.take-kept.new.seat.mine c.take-kept.result c.into_heap-heap.result.0 c.into_heap-heap.result.1 c.take-kept.ensures.handed c.into_heap-heap.ensures)
     (λ none. calls.named)
     (hand_claimed was.mine c.take-kept.new.seat.mine c.take-kept.result c.into_heap-heap.result.0 c.into_heap-heap.result.1 c.take-kept.ensures.handed c.into_heap-heap.ensures
-    c.marked.new.heap.plain (ap (λ n. n.chunks) calls.named))
+    c.marked.new.heap.plain (ap (λ (n : Naming). n.chunks) calls.named))
 
 pub returns : goal.returns
 returns g c = λ _.

@@ -3,7 +3,7 @@ use Rattle.std.proofs.Common.{◌≡◌, ℕ, refl, sym, subst, arith}
 use Rattle.hp_plain.specs.HallView.{joined_in}
 use Rattle.test_solo.proofs.Callers.{stage_can}
 use Rattle.hp_serve.proofs.SegmentSlots.{may_hold}
-use Rattle.test_solo.proofs.StageLemmas.{staged_attached}
+use Rattle.test_solo.proofs.StageLemmas.{attached_notes, staged_attached}
 use Rattle.test_solo.proofs.tests.stage.Stage.attach.Goals as goal
 
 pub do_attach-requires : goal.do_attach-requires
@@ -18,4 +18,7 @@ do_attach-requires c =
 pub invariant_of-self : goal.invariant_of-self
 invariant_of-self c =
     staged_attached c.self.inside.hall c.do_attach.new.hall c.self.inside.primary c.self.inside.secondary c.do_attach.new.self c.do_attach.ensures.goes_on
-    c.do_attach.ensures.changes c.self.invariant
+    c.do_attach.ensures.changes
+    (attached_notes c.do_attach.result _ c.self.inside.secondary c.do_attach.new.self _ _ refl c.do_attach.ensures.does c.do_attach.ensures.err
+    ∙ c.self.invariant.2.noted)
+    c.self.invariant

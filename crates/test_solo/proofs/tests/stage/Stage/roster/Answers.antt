@@ -3,7 +3,7 @@ use Rattle.std.proofs.Common.{arith}
 use Rattle.hp_plain.specs.Course.{course_then}
 use Rattle.hp_plain.specs.PlainState.{plain_state}
 use Rattle.hp_serve.proofs.SegmentSlots.{Took, put_stays, took_has}
-use Rattle.test_solo.proofs.Callers.{stage_holds, stage_joins, stage_owns}
+use Rattle.test_solo.proofs.Callers.{stage_holds, stage_joins, stage_marks, stage_owns}
 use Rattle.test_solo.proofs.StageLemmas.{staged_on}
 use Rattle.test_solo.proofs.tests.stage.Stage.roster.Goals as goal
 
@@ -36,4 +36,4 @@ invariant_of-self c =
     let stays = put_stays is given.ensures.back in
     staged_on old given.new.hall c.self.inside.primary c.self.inside.secondary
     (course_then old taken.new.hall given.new.hall taken.ensures.goes_on given.ensures.goes_on) stays.slots.home
-    (stage_owns old given.new.hall stays) (stage_joins old given.new.hall stays) c.self.invariant
+    (stage_owns old given.new.hall stays) (stage_joins old given.new.hall stays) (stage_marks old given.new.hall stays) c.self.invariant
