@@ -1,8 +1,8 @@
 -- Names agree with what its participant knows, with the heap in its hand in which a request was tried.
 use Rattle.std.proofs.Common.{◌≡◌, ◌∙◌, ◌+◌, ◌++◌, ℕ, Bool, true, false, cond, eqb, List, [], append-nil, Option, Some, None, refl, ap, sym, subst}
 use Rattle.std.specs.List.{reduce}
-use Rattle.std.specs.Prelude.{IfNone}
-use Rattle.std.proofs.lemmas.Bool.{eq-eqb}
+use Rattle.std.specs.Prelude.{Err, IfNone, IsErr, Ok, Result}
+use Rattle.std.proofs.lemmas.Bool.{eq-eqb, false≢true}
 use Rattle.hp_base.specs.declared.request.Request.{Request}
 use Rattle.hp_base.specs.declared.span.Span.{Span}
 use Rattle.hp_base.specs.declared.tag.Caller.{Caller}
@@ -29,7 +29,7 @@ use Rattle.hp_proc.specs.LineInHall.{HoldsIn, KeepsHeld, KnowsAsBefore, did_in, 
 use Rattle.hp_proc.specs.NamesInHand.{KeepsAgreed, TakesAgreed}
 use Rattle.hp_proc.specs.ParticipantView.{ParticipantView}
 use Rattle.hp_proc.specs.Progress.{Does, caller_of, with_hand}
-use Rattle.hp_proc.specs.ZonesInHand.{AgreeOnceAnswered, AgreeOnceAnsweredIn, parts_with}
+use Rattle.hp_proc.specs.ZonesInHand.{AgreeOnceAnswered, AgreeOnceAnsweredIn, answer_of, last_answer_of, parts_with}
 use Rattle.hp_proc.proofs.HandFacts.BesideNames.{held_agrees}
 use Rattle.hp_proc.proofs.HandFacts.HandCalls.{call_index}
 use Rattle.hp_proc.proofs.InHandUntold.{still_leads}
@@ -50,6 +50,15 @@ says_none caller asked tag given heap next step none = ap naming_of (step.heap �
 none_of : {P : Type 0} (found : Option ℕ) → IfNone found P → found ≡ None → P
 none_of None given none = given
 none_of (Some addr) given none = cc
+
+-- a line that stopped gave no answer
+pub stopped_none : {E : Type 0} (result : Result (Option Answer) E) → IsErr result → None ≡ answer_of result
+stopped_none (Ok given) is = absurd (false≢true is)
+stopped_none (Err stopped) is = refl
+
+pub stopped_last : {E : Type 0} (result : Result (Answer × ℕ) E) → IsErr result → None ≡ last_answer_of result
+stopped_last (Ok given) is = absurd (false≢true is)
+stopped_last (Err stopped) is = refl
 
 -- it was held on, and what the names say of it is as it was
 hand_keeps : (who : ℕ) (heap next : HeapView) (old new : ℕ → HeapPart) → next.plain.index ≡ heap.plain.index

@@ -1,7 +1,7 @@
 pub mod BesideNames
 pub mod Boxed
-pub mod HandAgain
 pub mod Forgotten
+pub mod HandAgain
 pub mod HandAllocates
 pub mod HandAsked
 pub mod HandAttaches

@@ -59,8 +59,8 @@ module _ (count : ℕ) where
   untold_in_hand _ _ _ _ _ _ _ (Acts.changes_names hand doer change) none heap end is ends = (tt, tt)
   untold_in_hand _ _ _ _ _ _ _ (Acts.looks_at_segs doer at taken) none heap end is ends = tt
   untold_in_hand _ _ _ _ _ _ _ (Acts.plans_range doer at addr len page taken) none heap end is ends = (tt, tt)
-  untold_in_hand _ _ _ _ _ _ _ (Acts.claims doer at chunk taken plan) none heap end is ends = (tt, tt, tt, tt)
-  untold_in_hand _ _ _ _ _ _ _ (Acts.releases doer at chunk taken) none heap end is ends = (tt, tt, tt)
+  untold_in_hand _ _ _ _ _ _ _ (Acts.claims doer at chunk taken plan) none heap end is ends = (tt, (tt, (tt, tt)))
+  untold_in_hand _ _ _ _ _ _ _ (Acts.releases doer at chunk taken) none heap end is ends = (tt, (tt, tt))
   untold_in_hand _ _ _ _ _ _ _ (Acts.maps_chunk doer at chunk after ended maps) none heap end is ends = (tt, tt)
   untold_in_hand _ _ _ _ _ _ _ (Acts.shares doer at chunk its) none heap end is ends = (tt, tt)
   untold_in_hand _ _ _ _ _ _ _ (Acts.leaves doer at chunk after leaves) none heap end is ends = (tt, tt)

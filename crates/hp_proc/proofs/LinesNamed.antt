@@ -25,7 +25,7 @@ use Rattle.hp_proc.specs.SharedNames.{SharedNames}
 use Rattle.hp_proc.proofs.Halted.{line_halted}
 use Rattle.hp_proc.proofs.HandFacts.Holds.{knew_after}
 use Rattle.hp_proc.proofs.LineFacts.{AwaitsNone, BringsNone, awaits_none, line_whole}
-use Rattle.hp_proc.proofs.NamesAround.{does_around, halts_around}
+use Rattle.hp_proc.proofs.NamesAround.{around_steps, around_trace, does_around, halts_around}
 use Rattle.hp_proc.proofs.TreeDeeds.{acts_unnamed, steps_on}
 
 -- a line may have the names in hand beside heaps, may hold heaps, brings no element, and awaits nobody
@@ -47,17 +47,18 @@ module _ {doer mid : ParticipantView} {names given : NamesView} {from at between
   pub names_around : {new : ParticipantView} {heaps : List ℕ} (rest : Doing)
       → (did : DoesNamed heaps me mid new names given at between (goes (shared_of names)) rest)
       → NamesOfLine (does_around held gave slots others goes rest did).trace (does_around held gave slots others goes rest did).steps
-  unfolding does_around
   names_around {new} {heaps} rest did =
       let does = did.does in
       let none : steps_of_names held.waited ≡ [] = acts_unnamed from.count None None [] doer mid [] held.waited held.acts refl in
       let unnamed : steps_of_names does.steps ≡ [] = acts_unnamed at.count None None heaps mid new does.trace does.steps does.acts did.names.unread in
       let last : List MailStep = Gives NAMES_SLOT (Names given) ∷ [] in
       NamesOfLine.once names given does.trace
-      (steps_on held.waited (Takes NAMES_SLOT (Names names) ∷ (does.steps ++ last))
+      (ap steps_of_names (around_steps held gave slots others goes rest did)
+      ∙ (steps_on held.waited (Takes NAMES_SLOT (Names names) ∷ (does.steps ++ last))
       ∙ (ap (λ (waited : List MailStep). waited ++ steps_of_names (Takes NAMES_SLOT (Names names) ∷ (does.steps ++ last))) none
       ∙ (ap (λ (steps : List MailStep). Takes NAMES_SLOT (Names names) ∷ steps) (steps_on does.steps last)
-      ∙ ap (λ (steps : List MailStep). Takes NAMES_SLOT (Names names) ∷ (steps ++ last)) unnamed))) refl did.names.unread did.names.changed
+      ∙ ap (λ (steps : List MailStep). Takes NAMES_SLOT (Names names) ∷ (steps ++ last)) unnamed)))) (around_trace held gave slots others goes rest did)
+      did.names.unread did.names.changed
 
   -- what was done of it, and what that had of the names
   abbrev IsDone : ParticipantView → Answer → Doing → Type 0

@@ -83,7 +83,7 @@ module _ {doer mid : ParticipantView} {names given : NamesView} {from at between
   me = doer.party.me
 
   -- the steps of what it did with the names in hand, with those around it
-  abbrev around : List MailStep → List MailStep
+  abbrev pub around : List MailStep → List MailStep
   around steps = held.waited ++ (Takes NAMES_SLOT (Names names) ∷ (steps ++ Gives NAMES_SLOT (Names given) ∷ []))
 
   around_did : (steps : List MailStep) → Did me steps at between → Did me (around steps) from to
@@ -111,7 +111,7 @@ module _ {doer mid : ParticipantView} {names given : NamesView} {from at between
       held.context counted
 
   -- what it did is what reading the names leads to
-  unfoldable pub does_around : {new : ParticipantView} {heaps : List ℕ} (goes : SharedNames → Doing) (rest : Doing)
+  pub does_around : {new : ParticipantView} {heaps : List ℕ} (goes : SharedNames → Doing) (rest : Doing)
       → (did : DoesNamed heaps me mid new names given at between (goes (shared_of names)) rest)
       → DoesHere heaps me doer new from to (reading_names goes) rest
   unfolding Leads Goes AreAsked
@@ -152,6 +152,19 @@ module _ {doer mid : ParticipantView} {names given : NamesView} {from at between
             ∙ append_assoc (from.heard me ++ first.0) does.outcomes heard.0
             ∙ append_assoc (from.heard me) first.0 (does.outcomes ++ heard.0);
       }
+
+  -- with the trace and the steps that this has
+  pub around_trace : {new : ParticipantView} {heaps : List ℕ} (goes : SharedNames → Doing) (rest : Doing)
+      → (did : DoesNamed heaps me mid new names given at between (goes (shared_of names)) rest)
+      → (does_around {new} {heaps} goes rest did).trace ≡ NamesRead (shared_of names) ∷ did.does.trace
+  unfolding does_around
+  around_trace {new} {heaps} goes rest did = refl
+
+  pub around_steps : {new : ParticipantView} {heaps : List ℕ} (goes : SharedNames → Doing) (rest : Doing)
+      → (did : DoesNamed heaps me mid new names given at between (goes (shared_of names)) rest)
+      → (does_around {new} {heaps} goes rest did).steps ≡ around did.does.steps
+  unfolding does_around
+  around_steps {new} {heaps} goes rest did = refl
 
   -- so is what it did where it stopped
   pub halts_around : {new : ParticipantView} {heaps : List ℕ} (goes : SharedNames → Doing)

@@ -57,7 +57,7 @@ no_name zero index = refl
 no_name (suc n) zero = refl
 no_name (suc n) (suc index) = no_name n index
 
-slot_there : (sockets : List ℕ) (n k socket : ℕ) → slice_get sockets k ≡ Some socket
+pub slot_there : (sockets : List ℕ) (n k socket : ℕ) → slice_get sockets k ≡ Some socket
     → slice_get (map socket_heap sockets ++ replicate n no_heap) k ≡ Some (socket_heap socket)
 slot_there [] n k socket is = cc
 slot_there (first ∷ sockets) n zero socket is = ap (λ (found : Option ℕ). option_map socket_heap found) is

@@ -103,7 +103,7 @@ module _ (view : DirectoryView) (is : IsDirectory view) where
       (all_high view.log FIRST_EXTERNAL_SOCKET (view.plain.next - FIRST_EXTERNAL_SOCKET) (omega arith) is.given) (opening_placed view.sockets))
 
   -- whose pages the heap of an index takes
-  serves_as : (index : ℕ) (heap : HeapName) → slice_get view.plain.heaps index ≡ Some (Some heap)
+  pub serves_as : (index : ℕ) (heap : HeapName) → slice_get view.plain.heaps index ≡ Some (Some heap)
       → served_by heap.socket ≡ slice_get view.sockets index
   serves_as index heap there = by_cases ((slice_get_cases view.sockets index).1)
     where

@@ -1,6 +1,7 @@
 -- A participant that reserves a memzone has the names in hand still, as they are by then.
-use Rattle.std.proofs.Common.{◌≡◌, ◌∙◌, ℕ, zero, suc, true, List, [], ◌∷◌, ◌++◌, Contains, Option, Some, None, refl, ap, sym, subst, arith, append_assoc, ⊎_elim}
+use Rattle.std.proofs.Common.{◌≡◌, ◌∙◌, ℕ, zero, suc, true, List, [], ◌∷◌, ◌++◌, Contains, Option, Some, None, inr, refl, ap, sym, subst, arith, append_assoc, ⊎_elim}
 use Rattle.std.proofs.lemmas.List.Elements.{Contains-append_cases}
+use Rattle.std.proofs.Math.Nat.{le-max_left}
 use Rattle.hp_base.specs.declared.tag.Tag.{Tag}
 use Rattle.hp_hall.specs.HallState.{HallState}
 use Rattle.hp_hall.specs.Holding.{AgreeWith, HeapPart}
@@ -10,6 +11,8 @@ use Rattle.hp_hall.specs.declared.kept.Kept.TheVariants.{Names}
 use Rattle.hp_heap.specs.declared.entry.Entry.{Entry}
 use Rattle.hp_script.specs.declared.answer.Answer.{Answer}
 use Rattle.hp_script.specs.declared.answer.Answer.TheVariants as answer
+use Rattle.hp_script.specs.declared.options.Options.{Options}
+use Rattle.hp_zone.specs.Checking.{IsAcceptable}
 use Rattle.hp_zone.specs.Directory.{DirectoryView}
 use Rattle.hp_zone.specs.Zones.{Reserves, with_room}
 use Rattle.hp_zone.specs.declared.names.Names.{Names as NamesView}
@@ -21,7 +24,8 @@ use Rattle.hp_proc.specs.Heaps.{sockets_of}
 use Rattle.hp_proc.specs.LineInHall.{HasCalledBeside, HasNamesOut}
 use Rattle.hp_proc.specs.NamesInHand.{HasCalledNamed, IsReadyNamed, entries_in}
 use Rattle.hp_proc.specs.ParticipantView.{ParticipantView}
-use Rattle.hp_proc.specs.ZonesInHand.{AgreeOnceAnswered, HasFoundNone}
+use Rattle.hp_proc.specs.VerbLaws.{asked_for}
+use Rattle.hp_proc.specs.ZonesInHand.{AgreeOnceAnswered, HasFoundNone, MayPut, PutsZone, zone_for}
 use Rattle.hp_proc.proofs.NamesAround.{names_give_on}
 
 -- the names with room for one memzone more
@@ -144,3 +148,26 @@ module _ {me : ℕ} {old new : ParticipantView} {from to : HallState} (names : N
         })
         (agrees.with_more names now zone zoned answered there (record { zones = reserves.zones; heaps = heaps }) ready.agrees)
         (ap (λ (heaps : DirectoryView). heaps.sockets) heaps)
+
+    -- so it is with what the memzones then have
+    pub named_put : tag.zone ≡ true → (told : Answer) → given ≡ Some told → (kept : List ℕ) (size : ℕ) (now : NamesView)
+        → PutsZone (roomy names) now kept size heap told → IsSoundKept (Names now) → HasCalledNamed me old new now to
+    named_put zoned told is kept size now puts sound = other told refl puts
+      where
+        other : (ended : Answer) → told ≡ ended → PutsZone (roomy names) now kept size heap ended → HasCalledNamed me old new now to
+        other (answer.Address addr) same puts =
+            named_one addr zoned (is ∙ ap (λ (told : Answer). Some told) same) (zone_for (roomy names) kept size heap addr) refl refl now puts.0 puts.1 sound
+        other _ same puts =
+            subst (λ (now : NamesView). HasCalledNamed me old new now to) (sym puts)
+            (named_none (inr (λ addr found. (let both : Some told ≡ Some (answer.Address addr) = sym is ∙ found in cc))))
+
+-- where nothing stands against a reservation the memzones may get what it brings
+pub may_put : (names : NamesView) (text : List ℕ) (len : ℕ) (options : Options) → IsAcceptable names.zones.zones (asked_for text len options)
+    → (size heap : ℕ) (given : Answer) → MayPut (roomy names) text size heap given
+may_put names text len options is size heap (answer.Address addr) = record {
+  name = is.name;
+  fresh = is.fresh;
+  place = is.place;
+  memory = le-max_left 1 names.zones.room;
+}
+may_put names text len options is size heap _ = tt

@@ -20,6 +20,7 @@ ghost use Rattle.hp_proc.specs.ZoneLines.{found_zone, zone_answer, zone_tag};
 ghost use Rattle.hp_proc.specs.ZonesInHand.{IsReservation, MayPut, PutsZone, reserving_by};
 
 use super::Participant;
+use super::names::are_sound;
 use crate::named_heaps::place_of;
 use crate::place_lists::{Places, one_place};
 use hp_base::{Mapper, Name, Request, Tag};
@@ -134,6 +135,7 @@ impl<'p, M: Mapper, F: Decide + Copy + Drop> Participant<'p, M, F> {
         let tag = self.zone_tag(line, name);
         let (answer, heap) = self.serve_request(hall, places.as_slice(), request, tag)?;
         put_zone(names, kept, request.size, heap, answer);
+        are_sound(names);
         Ok(answer)
     }
 

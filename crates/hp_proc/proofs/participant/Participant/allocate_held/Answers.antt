@@ -1,6 +1,7 @@
 -- The heap is searched, gets pages where that found nothing, and is searched again.
 use Rattle.std.proofs.Common.{◌≡◌, ◌∙◌, [], ◌∷◌, ℕ, None, Some, List, Option, refl, ap, sym, subst, arith}
 use Rattle.hp_base.specs.declared.request.Request.{Request}
+use Rattle.hp_script.specs.declared.answer.Answer.{Answer}
 use Rattle.hp_script.specs.declared.answer.Answer.TheVariants as gives
 use Rattle.hp_proc.specs.Allocating.{after_asking, asking, first_flags, trying, with_flags}
 use Rattle.hp_proc.specs.Heaps.{NamedHeap, page_sizes_for}
@@ -8,10 +9,11 @@ use Rattle.hp_proc.specs.LineInHall.{DoesHeld, HaltsHeld, did_in, moment_with}
 use Rattle.hp_proc.specs.ParticipantView.{ParticipantView}
 use Rattle.hp_proc.specs.PlaceLists.{place_named}
 use Rattle.hp_proc.specs.Progress.{Tries}
+use Rattle.hp_proc.specs.ZonesInHand.{AgreeOnceAnsweredIn}
 use Rattle.hp_proc.specs.declared.searched_heap.SearchedHeap.{SearchedHeap}
 use Rattle.hp_serve.proofs.AskingFacts.AskedAlong.{on_err_any}
 use Rattle.hp_proc.proofs.AddressLies.{lies_none, lies_so}
-use Rattle.hp_proc.proofs.AllocAgrees.{agrees_again, agrees_first, agrees_missing, keeps_asked, keeps_searched}
+use Rattle.hp_proc.proofs.AllocAgrees.{agrees_again, agrees_first, agrees_missing, keeps_asked, keeps_searched, stopped_none}
 use Rattle.hp_proc.proofs.ChunkLies.{allocation_lies}
 use Rattle.hp_proc.proofs.HandFacts.BesideNames.{names_kept, names_same}
 use Rattle.hp_proc.proofs.HandFacts.HandAgain.{keeps_again, keeps_grown, lies_again}
@@ -193,9 +195,13 @@ returns-in_err-grow-clause-goes_on g c = c.grow.ensures.goes_on
 
 pub returns-in_err-grow-clause-agrees : goal.returns-in_err-grow-clause-agrees
 returns-in_err-grow-clause-agrees g c =
-    agrees_passed (keeps_asked c.args.self.now c.args.heap.now c.allocate_in.new.heap c.with_flags-first.result c.args.tag c.allocate_in.result (g.H.Hall.state c.args.hall.now) c.allocate_in.ensures.step
+    let me = c.args.self.now.party.me in
+    subst (λ (given : Option Answer). AgreeOnceAnsweredIn me c.args.tag given c.args.heap.now c.grow.new.heap
+    ((g.H.Hall.state c.args.hall.now).part me) ((g.H.Hall.state c.grow.new.hall).part me))
+    (stopped_none c.from_residual.result c.from_residual.ensures.0)
+    (agrees_passed (keeps_asked c.args.self.now c.args.heap.now c.allocate_in.new.heap c.with_flags-first.result c.args.tag c.allocate_in.result (g.H.Hall.state c.args.hall.now) c.allocate_in.ensures.step
     c.requires.holds c.allocate_in.ensures.none c.in_default.is c.allocate_in.new.self c.grow.new.self c.grow.new.heap (g.H.Hall.state c.grow.new.hall)
-    (ap (λ (doer : ParticipantView). doer.party.me) c.allocate_in.ensures.counted) c.grow.ensures.keeps c.grow.ensures.says)
+    (ap (λ (doer : ParticipantView). doer.party.me) c.allocate_in.ensures.counted) c.grow.ensures.keeps c.grow.ensures.says))
 
 -- NONE WERE c.if-not-branch.false
 

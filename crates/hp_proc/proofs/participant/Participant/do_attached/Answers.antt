@@ -1,9 +1,10 @@
 -- Each line that only who is attached does is done as its kind is.
-use Rattle.std.proofs.Common.{◌≡◌, ◌∙◌, ◌+◌, ◌≤◌, ℕ, ap, refl, sym, subst, arith}
-use Rattle.std.specs.Prelude.{IfOk, Result, Ok, Err, ⊤}
+use Rattle.std.proofs.Common.{◌≡◌, ◌∙◌, ◌+◌, ◌≤◌, ℕ, Bool, inl, inr, ap, refl, sym, subst, arith}
+use Rattle.std.specs.Prelude.{◌⊎◌, IfOk, Result, Ok, Err, ⊤}
 use Rattle.hp_script.specs.declared.answer.Answer.{Answer}
 use Rattle.hp_script.specs.declared.line.Act.{Act}
 use Rattle.hp_script.specs.declared.line.Act.TheVariants as act
+use Rattle.hp_script.specs.declared.token.Token.{Token}
 use Rattle.hp_serve.proofs.AskingFacts.AskedAlong.{if_ok}
 use Rattle.hp_serve.specs.Clocks.{longest_allocation, longest_wait}
 use Rattle.hp_serve.specs.Party.{Party}
@@ -78,15 +79,25 @@ returns-in-Stats-clause-lies g c =
 pub returns-in-Stats-clause-clock : goal.returns-in-Stats-clause-clock
 returns-in-Stats-clause-clock g c = λ one. still_within _ _ _ (c.do_stats.ensures.clock one)
 
+-- it is a watcher's line, or a validator's
+watched_so : {deed : Act} → ((name : Token) × deed ≡ act.Watch name) ⊎ ((name : Token) × deed ≡ act.Unwatch name) → IsRegistering deed
+watched_so {deed} (inl (name, is)) = subst IsRegistering (sym is) tt
+watched_so {deed} (inr (name, is)) = subst IsRegistering (sym is) tt
+
+limited_so : {deed : Act} → ((name : Token) × (socket : ℕ) × (bytes : ℕ) × (allow : Bool) × deed ≡ act.Limit name socket bytes allow)
+    ⊎ ((name : Token) × (socket : ℕ) × deed ≡ act.Unlimit name socket) → IsRegistering deed
+limited_so {deed} (inl (name, socket, bytes, allow, is)) = subst IsRegistering (sym is) tt
+limited_so {deed} (inr (name, socket, is)) = subst IsRegistering (sym is) tt
+
 pub returns-in-Watch-clause-does : goal.returns-in-Watch-clause-does
 returns-in-Watch-clause-does g c =
-    let registers : IsRegistering c.args.line.now.act = search rules in
+    let registers : IsRegistering c.args.line.now.act = watched_so c.in-Watch.is in
     here_registered c.do_registering-in-Watch.result c.args.self.now c.do_registering-in-Watch.new.self (g.H.Hall.state c.args.hall.now) c.args.line.now c.args.line.now.act
     refl registers c.requires.attached c.do_registering-in-Watch.ensures.given c.do_registering-in-Watch.ensures.left
 
 pub returns-in-Watch-clause-halts : goal.returns-in-Watch-clause-halts
 returns-in-Watch-clause-halts g c =
-    let registers : IsRegistering c.args.line.now.act = search rules in
+    let registers : IsRegistering c.args.line.now.act = watched_so c.in-Watch.is in
     here_halts c.do_registering-in-Watch.result c.args.self.now c.do_registering-in-Watch.new.self (g.H.Hall.state c.args.hall.now) c.args.line.now c.args.line.now.act
     refl registers c.do_registering-in-Watch.ensures.err
 
@@ -97,13 +108,13 @@ returns-in-Watch-clause-ready g c =
 
 pub returns-in-Limit-clause-does : goal.returns-in-Limit-clause-does
 returns-in-Limit-clause-does g c =
-    let registers : IsRegistering c.args.line.now.act = absurd c.in-Limit.is in
+    let registers : IsRegistering c.args.line.now.act = limited_so c.in-Limit.is in
     here_registered c.do_registering.result c.args.self.now c.do_registering.new.self (g.H.Hall.state c.args.hall.now) c.args.line.now c.args.line.now.act
     refl registers c.requires.attached c.do_registering.ensures.given c.do_registering.ensures.left
 
 pub returns-in-Limit-clause-halts : goal.returns-in-Limit-clause-halts
 returns-in-Limit-clause-halts g c =
-    let registers : IsRegistering c.args.line.now.act = search rules in
+    let registers : IsRegistering c.args.line.now.act = limited_so c.in-Limit.is in
     here_halts c.do_registering.result c.args.self.now c.do_registering.new.self (g.H.Hall.state c.args.hall.now) c.args.line.now c.args.line.now.act
     refl registers c.do_registering.ensures.err
 

@@ -14,10 +14,10 @@ use Rattle.hp_serve.proofs.AskingFacts.AskedAlong.{on_err_any}
 use Rattle.hp_serve.specs.Clocks.{RisesWithin, longest_growth}
 use Rattle.hp_serve.specs.Party.{IsSameParty, Party}
 use Rattle.hp_proc.specs.Allocating.{serving}
-use Rattle.hp_proc.specs.Contexts.{Context}
+use Rattle.hp_proc.specs.Contexts.{Context, IsNextLine}
 use Rattle.hp_proc.specs.LineInHall.{DoesLineHere, HaltsHere, HaltsLineHere, HasCalled, IsKnownMapped, IsMapped, IsReadyAgain, IsReadyBut, IsReadyIn, MayGiveBeside, did_in, moment}
 use Rattle.hp_proc.specs.Lines.{tag_of}
-use Rattle.hp_proc.specs.ParticipantView.{ParticipantView, after_answer}
+use Rattle.hp_proc.specs.ParticipantView.{ParticipantView, after_answer, with_calls}
 use Rattle.hp_proc.specs.PlaceLists.{place_list}
 use Rattle.hp_proc.specs.Progress.{AreOnce, IsAllocation}
 use Rattle.hp_proc.specs.declared.searched_heap.SearchedHeap.{SearchedHeap}
@@ -72,7 +72,7 @@ start_ready doer start {a} same ready = subst (λ (doer : ParticipantView). IsRe
 
 -- the heaps are chosen by one that is ready
 pub heaps_to_try-requires : goal.heaps_to_try-requires
-heaps_to_try-requires g c = start_ready c.args.self.now c.reserve_element.new.self c.reserve_element.ensures c.requires.ready
+heaps_to_try-requires g c = record { ready = start_ready c.args.self.now c.reserve_element.new.self c.reserve_element.ensures c.requires.ready; }
 
 pub serve_request-requires-clause-places : goal.serve_request-requires-clause-places
 serve_request-requires-clause-places g c = λ place among.
@@ -99,6 +99,31 @@ serve_request-requires-clause-beside g c = inl (c.heaps_to_try.ensures.ready.aga
 
 pub serve_request-requires-clause-named : goal.serve_request-requires-clause-named
 serve_request-requires-clause-named g c = λ zone. absurd cc
+
+-- its line is the next one still
+next_still : (doer start mid after : ParticipantView) (line : Line) → start ≡ doer → mid.context ≡ with_calls mid.context.calls start.context
+    → after.context ≡ with_calls after.context.calls mid.context → IsNextLine doer.context line → IsNextLine after.context line
+next_still doer start mid after line same chosen called next =
+    subst (λ (context : Context). IsNextLine context line) (sym called)
+    (subst (λ (context : Context). IsNextLine context line) (sym chosen)
+    (subst (λ (doer : ParticipantView). IsNextLine doer.context line) (sym same) next))
+
+pub note_answer-requires-clause-next : goal.note_answer-requires-clause-next
+note_answer-requires-clause-next g c =
+    let chosen = c.heaps_to_try.ensures.ready in
+    next_still c.args.self.now c.reserve_element.new.self c.heaps_to_try.new.self c.serve_request.new.self c.args.line.now c.reserve_element.ensures
+    chosen.context (called_home (mid_ready chosen chosen.again.same.me) c.serve_request.ensures.ready).context c.requires.next
+
+-- IT GOES ON
+
+pub returns-in_err-answer-clause-goes_on : goal.returns-in_err-answer-clause-goes_on
+returns-in_err-answer-clause-goes_on g c = g.met.H.Hall.goes_on_then _ _ _ c.heaps_to_try.ensures.goes_on c.serve_request.ensures.goes_on
+
+pub returns-in_err-note_answer-clause-goes_on : goal.returns-in_err-note_answer-clause-goes_on
+returns-in_err-note_answer-clause-goes_on g c = g.met.H.Hall.goes_on_then _ _ _ c.heaps_to_try.ensures.goes_on c.serve_request.ensures.goes_on
+
+pub returns-clause-goes_on : goal.returns-clause-goes_on
+returns-clause-goes_on g c = g.met.H.Hall.goes_on_then _ _ _ c.heaps_to_try.ensures.goes_on c.serve_request.ensures.goes_on
 
 -- READY AGAIN
 

@@ -24,9 +24,10 @@ use Rattle.hp_proc.specs.LineInHall.{HaltsHere, HasNamesOut, IsKnownMapped, IsRe
 use Rattle.hp_proc.specs.ParticipantView.{ParticipantView}
 use Rattle.hp_proc.specs.PlaceLists.{place_named}
 use Rattle.hp_proc.specs.Progress.{AreOnce, Brings, Does, Moment, Tries}
-use Rattle.hp_proc.specs.ZonesInHand.{AgreeOnceAnswered, answer_of}
+use Rattle.hp_proc.specs.ZonesInHand.{AgreeOnceAnswered, answer_of, last_heap_of}
 use Rattle.hp_proc.specs.declared.searched_heap.SearchedHeap.{SearchedHeap}
 use Rattle.hp_hall.specs.declared.slot.TheConstants.{NAMES_SLOT}
+use Rattle.hp_proc.proofs.AllocAgrees.{stopped_last}
 use Rattle.hp_proc.proofs.Halted.{halts_among, halts_more}
 use Rattle.hp_proc.proofs.HallMoments.{told_alike}
 use Rattle.hp_proc.proofs.HandFacts.BesideNames.{gives_beside}
@@ -375,10 +376,12 @@ returns-in_err-answer-clause-agrees g c =
     let me = c.args.self.now.party.me in
     let second = g.H.Hall.state c.loop-place.hall in
     let third = g.H.Hall.state c.try_heap.new.hall in
-    agrees_none (no_address None refl) (λ names agree.
+    subst (λ (given : Option Answer). AgreeOnceAnswered c.args.tag given (last_heap_of c.from_residual.result)
+    ((g.H.Hall.state c.args.hall.now).part me) (third.part me)) (stopped_last c.from_residual.result c.from_residual.ensures.0)
+    (agrees_none (no_address None refl) (λ names agree.
     subst (λ (who : ℕ). AgreeWith (third.part who) names) was.called.same.me
     (c.try_heap.ensures.agrees.still names (inr (no_address (answer_of c.try_heap.result) (ap answer_of c.in_err-answer.was)))
-    (subst (λ (who : ℕ). AgreeWith (second.part who) names) (sym was.called.same.me) (was.agrees names agree))))
+    (subst (λ (who : ℕ). AgreeWith (second.part who) names) (sym was.called.same.me) (was.agrees names agree)))))
 
 pub returns-in_err-answer-clause-halts : goal.returns-in_err-answer-clause-halts
 returns-in_err-answer-clause-halts g c =

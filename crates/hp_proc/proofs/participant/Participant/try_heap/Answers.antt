@@ -1,5 +1,5 @@
 -- The heap is taken into hand, tried, and given back.
-use Rattle.std.proofs.Common.{◌≡◌, ◌∙◌, [], ◌∷◌, ℕ, List, Some, refl, ap, sym, subst, arith}
+use Rattle.std.proofs.Common.{◌≡◌, ◌∙◌, [], ◌∷◌, ℕ, List, Some, refl, ap, sym, subst, arith, Option}
 use Rattle.std.proofs.lemmas.Result.{on_err_weaker}
 use Rattle.std.specs.Prelude.{slice_get}
 use Rattle.hp_base.specs.declared.pool_line.PoolLine.{PoolLine}
@@ -9,7 +9,7 @@ use Rattle.hp_proc.specs.Allocating.{trying, unless_answered}
 use Rattle.hp_proc.specs.Contexts.{Context}
 use Rattle.hp_proc.specs.NamesInHand.{KeepsAgreed}
 use Rattle.hp_proc.specs.PlaceLists.{place_named}
-use Rattle.hp_proc.specs.ZonesInHand.{AgreeOnceAnsweredIn, answer_of}
+use Rattle.hp_proc.specs.ZonesInHand.{AgreeOnceAnswered, AgreeOnceAnsweredIn, answer_of}
 use Rattle.hp_heap.specs.History.{entries_of}
 use Rattle.hp_proc.specs.Heaps.{NamedHeap, sockets_of}
 use Rattle.hp_serve.proofs.AskingFacts.AskedAlong.{on_err_any}
@@ -18,7 +18,7 @@ use Rattle.hp_proc.specs.LineInHall.{HaltsHeld, HaltsHere, HasNamesOut, HoldsIn,
 use Rattle.hp_proc.specs.Progress.{Does, Tries, in_hand}
 use Rattle.hp_serve.proofs.AskingFacts.AskedAlong.{if_ok}
 use Rattle.hp_proc.proofs.AddressLies.{lies_still}
-use Rattle.hp_proc.proofs.AllocAgrees.{agrees_tried, put_entries}
+use Rattle.hp_proc.proofs.AllocAgrees.{agrees_tried, put_entries, stopped_none}
 use Rattle.hp_proc.proofs.Halted.{halts_more, halts_on}
 use Rattle.hp_proc.proofs.HallMoments.{told_alike}
 use Rattle.hp_proc.proofs.HandFacts.HandTried.{tries_passed, tries_then}
@@ -208,7 +208,11 @@ returns-clause-halts g c =
 -- WHAT AGREES
 
 pub returns-in_err-heap-clause-agrees : goal.returns-in_err-heap-clause-agrees
-returns-in_err-heap-clause-agrees g c = agrees_passed c.in_err-heap.ensures.agreed
+returns-in_err-heap-clause-agrees g c =
+    let me = c.args.self.now.party.me in
+    subst (λ (given : Option Answer). AgreeOnceAnswered c.args.tag given c.args.place.now.index ((g.H.Hall.state c.args.hall.now).part me)
+    ((g.H.Hall.state c.hold.new.hall).part me)) (stopped_none c.from_residual.result c.from_residual.ensures.0)
+    (agrees_passed c.in_err-heap.ensures.agreed)
 
 pub returns-clause-agrees : goal.returns-clause-agrees
 returns-clause-agrees g c =
