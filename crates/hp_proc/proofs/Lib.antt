@@ -12,7 +12,9 @@ pub mod ChosenHeaps
 mod ChunkCame
 pub mod ChunkLies
 mod ChunksLeft
+mod ChunksNoted
 pub mod Continued
+mod ExternalLine
 mod ExternalMeant
 pub mod DetachedLines
 mod DetachesHere

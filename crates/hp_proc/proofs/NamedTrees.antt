@@ -92,7 +92,7 @@ module _ (who : ℕ) (pools : List PoolLine) (names : NamesView) (sound : IsDire
       by_names (λ (d : PlainDirectory). meant_by text d ≡ External index is.meant.socket)
       ((meanings_agree plain text sound.indexes).external index is.meant.socket is.name is.meant.named)
 
-  meant_chunks : (text : List ℕ) (index : ℕ) (is : IsMeant plain text index) → meant_in text directory ≡ External index is.socket
+  pub meant_chunks : (text : List ℕ) (index : ℕ) (is : IsMeant plain text index) → meant_in text directory ≡ External index is.socket
   meant_chunks text index is =
       by_names (λ (d : PlainDirectory). meant_in text d ≡ External index is.socket)
       ((meanings_agree plain text sound.indexes).external_there index is.socket is.named)
