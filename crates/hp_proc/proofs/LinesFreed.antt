@@ -83,6 +83,7 @@ module _ {doer mid : ParticipantView} {names given : NamesView} {from at between
   around = does_around held gave slots others goes (left_of heap left) named
 
   around_names : NamesOfLine around.trace around.steps
+  unfolding around
   around_names = names_around held gave slots others line facts known goes tree (left_of heap left) named
 
   module _ (told : Answer) (tells : DoesHere [] new.party.me new last to end (left_of heap left) (Doing.Ended told)) where
