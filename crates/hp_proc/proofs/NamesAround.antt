@@ -156,13 +156,13 @@ module _ {doer mid : ParticipantView} {names given : NamesView} {from at between
   -- with the trace and the steps that this has
   pub around_trace : {new : ParticipantView} {heaps : List ℕ} (goes : SharedNames → Doing) (rest : Doing)
       → (did : DoesNamed heaps me mid new names given at between (goes (shared_of names)) rest)
-      → (does_around {new} {heaps} goes rest did).trace ≡ NamesRead (shared_of names) ∷ did.does.trace
+      → (does_around goes rest did).trace ≡ NamesRead (shared_of names) ∷ did.does.trace
   unfolding does_around
   around_trace {new} {heaps} goes rest did = refl
 
   pub around_steps : {new : ParticipantView} {heaps : List ℕ} (goes : SharedNames → Doing) (rest : Doing)
       → (did : DoesNamed heaps me mid new names given at between (goes (shared_of names)) rest)
-      → (does_around {new} {heaps} goes rest did).steps ≡ around did.does.steps
+      → (does_around goes rest did).steps ≡ around did.does.steps
   unfolding does_around
   around_steps {new} {heaps} goes rest did = refl
 
