@@ -1,6 +1,5 @@
 -- A reservation is served with the names in hand, and what it brings is put among the memzones.
-use Rattle.std.proofs.Common.{rules, ◌≡◌, ◌∙◌, ℕ, List, map, Option, Some, None, inr, refl, ap, sym, subst}
-use Rattle.std.specs.List.{Contains}
+use Rattle.std.proofs.Common.{◌≡◌, ◌∙◌, ℕ, List, map, Option, Some, inr, refl, ap, sym, subst}
 use Rattle.std.specs.Option.{option_map}
 use Rattle.hp_base.specs.declared.limits.TheConstants.{MAX_HEAPS}
 use Rattle.hp_base.specs.declared.tag.Tag.{Tag}
@@ -16,12 +15,12 @@ use Rattle.hp_proc.specs.Contexts.{AreFactsOf}
 use Rattle.hp_proc.specs.Courses.{maker_for}
 use Rattle.hp_proc.specs.Doing.{Doing}
 use Rattle.hp_proc.specs.Handing.{shared_of}
-use Rattle.hp_proc.specs.Heaps.{NamedHeap, heaps_for}
+use Rattle.hp_proc.specs.Heaps.{heaps_for}
 use Rattle.hp_proc.specs.LineInHall.{HaltsHere, did_in, moment}
 use Rattle.hp_proc.specs.Lines.{Facts}
-use Rattle.hp_proc.specs.NamesInHand.{DoesNamedOnce, HasCalledNamed, HaltsNamedOnce, IsReadyNamed}
+use Rattle.hp_proc.specs.NamesInHand.{DoesNamedOnce, HasCalledNamed, HaltsNamedOnce}
 use Rattle.hp_proc.specs.PlaceLists.{place_named}
-use Rattle.hp_proc.specs.Progress.{AreOnce, Brings}
+use Rattle.hp_proc.specs.Progress.{Brings}
 use Rattle.hp_proc.specs.SharedNames.{heaps_in}
 use Rattle.hp_proc.specs.ZoneLines.{zone_tag}
 use Rattle.hp_proc.specs.ZonesInHand.{AgreeOnceAnswered, MayPut, PutsZone, last_answer_of, last_heap_of, reserving_by}
@@ -185,7 +184,7 @@ returns-in_err-answer-clause-halts g c =
     let are : map place_named heaps ≡ c.as_slice.result.now = sym (c.as_slice.ensures.value ∙ c.in_ok-places.ensures) in
     let now : NamesView = record { zones = c.reserve.new.self; heaps = names.heaps } in
     let stops : (facts : Facts) → AreFactsOf doer.party.socket doer.context line facts
-        → HaltsNamedOnce me doer after names now hall to (reserving_by line.act line facts (shared_of names)) =
+    → HaltsNamedOnce me doer after names now hall to (reserving_by line.act line facts (shared_of names)) =
     λ facts known.
     subst (λ (doing : Doing). HaltsNamedOnce me doer after names now hall to doing)
     (served_tree line name asks.len options asks.its_act doer.party.socket doer.context names these facts known request asks.accepted asks.is judged)
@@ -232,7 +231,7 @@ returns-in_err-places-clause-halts g c =
     let hall = g.H.Hall.state c.args.hall.now in
     let now : NamesView = record { zones = c.reserve.new.self; heaps = names.heaps } in
     let stops : (facts : Facts) → AreFactsOf doer.party.socket doer.context line facts
-        → HaltsNamedOnce doer.party.me doer doer names now hall hall (reserving_by line.act line facts (shared_of names)) =
+    → HaltsNamedOnce doer.party.me doer doer names now hall hall (reserving_by line.act line facts (shared_of names)) =
     λ facts known.
     halts_named doer.party.me doer names now hall (reserving_by line.act line facts (shared_of names))
     (ap (λ (zones : ZonesView). shared_of (record { zones = zones; heaps = names.heaps })) c.in_ok-reserve.ensures.ok) in
@@ -253,7 +252,7 @@ returns-in_err-reserve-clause-halts g c =
     let hall = g.H.Hall.state c.args.hall.now in
     let now : NamesView = record { zones = c.reserve.new.self; heaps = names.heaps } in
     let stops : (facts : Facts) → AreFactsOf doer.party.socket doer.context line facts
-        → HaltsNamedOnce doer.party.me doer doer names now hall hall (reserving_by line.act line facts (shared_of names)) =
+    → HaltsNamedOnce doer.party.me doer doer names now hall hall (reserving_by line.act line facts (shared_of names)) =
     λ facts known.
     halts_named doer.party.me doer names now hall (reserving_by line.act line facts (shared_of names))
     (ap (λ (zones : ZonesView). shared_of (record { zones = zones; heaps = names.heaps })) c.in_err-reserve.ensures.err) in
