@@ -80,24 +80,26 @@ halts_nothing : {heaps : List ℕ} (count : ℕ) (did : List MailStep → Type 0
     → (doing : Doing) → (halts : Halts heaps count did doing old new) × (halts.trace ≡ [])
 unfolding Leads
 halts_nothing {heaps} count did old new is doing =
-    let none = ended_leads answer.Done is.trace is.rest is.leads in
-    (record {
-      rest = doing;
-      trace = [];
-      steps = is.steps;
-      held = is.held;
-      others = is.others;
-      front = is.front;
-      leads = refl;
-      made = is.made;
-      acts = subst (λ (trace : List Done). ActsOn count old.hand new.hand is.held (doer_at old) (doer_at new) trace is.steps) none is.acts;
-      entries = λ heap.
-          subst (λ (trace : List Done). (new.parts heap).entries
-          ≡ (old.parts heap).entries ++ entries_for old.party.me heap (old.context.calls + 1) (calls_in trace)) none (is.entries heap);
-      counted = subst (λ (trace : List Done). new.context
-          ≡ record (after_calls (length (calls_in trace)) old.context) { standing = new.context.standing }) none is.counted;
-      same = is.same;
-    }, refl)
+    let none = ended_leads answer.Done is.trace is.rest is.leads in (
+      record {
+        rest = doing;
+        trace = [];
+        steps = is.steps;
+        held = is.held;
+        others = is.others;
+        front = is.front;
+        leads = refl;
+        made = is.made;
+        acts = subst (λ (trace : List Done). ActsOn count old.hand new.hand is.held (doer_at old) (doer_at new) trace is.steps) none is.acts;
+        entries = λ heap.
+            subst (λ (trace : List Done). (new.parts heap).entries
+            ≡ (old.parts heap).entries ++ entries_for old.party.me heap (old.context.calls + 1) (calls_in trace)) none (is.entries heap);
+        counted = subst (λ (trace : List Done). new.context
+            ≡ record (after_calls (length (calls_in trace)) old.context) { standing = new.context.standing }) none is.counted;
+        same = is.same;
+      },
+      refl,
+    )
 
 -- THE ENTRIES OF A HEAP IN HAND
 
@@ -340,11 +342,13 @@ module _ (me slot : ℕ) (new : ParticipantView) (given : NamesView) (next : Hea
   given_entries : (heap : ℕ) → (more : List Entry) × (entries_in who to heap ≡ entries_in who between heap ++ more)
   given_entries heap =
       let does = put (Doing.Ended answer.Done) in
-      let held = held_entries who new next between refl holds.holds.in_hand heap in
-      (held.0, does.entries heap
-      ∙ (ap (λ (trace : List Done). (with_hand who next (between.part who) heap).entries
-      ++ entries_for who heap (new.context.calls + 1) (calls_in trace)) (still_leads (Doing.Ended answer.Done) does.trace does.leads)
-      ∙ (append-nil (with_hand who next (between.part who) heap).entries ∙ held.1)))
+      let held = held_entries who new next between refl holds.holds.in_hand heap in (
+        held.0,
+        does.entries heap
+            ∙ (ap (λ (trace : List Done). (with_hand who next (between.part who) heap).entries
+            ++ entries_for who heap (new.context.calls + 1) (calls_in trace)) (still_leads (Doing.Ended answer.Done) does.trace does.leads)
+            ∙ (append-nil (with_hand who next (between.part who) heap).entries ∙ held.1)),
+      )
 
   -- the names are in hand still
   pub ready_there : IsReadyNamed who new given to
