@@ -106,7 +106,7 @@ module _ {doer mid : ParticipantView} {names given : NamesView} {from at between
             held = did.does.held ++ [];
             once = subst AreOnce (sym (append-nil did.does.held)) did.does.once;
             does = does_then from.count (did_in me from to) (did_in me to end) (did_in me from end) (reading_names goes) (left_of heap left)
-                (Doing.Ended told) (moment me doer from) (moment me new to) (moment me last end) (λ one two. did_then one two) around telling;
+                (Doing.Ended told) (moment me doer from) (moment me new to) (moment me last end) (λ one two. did_then) around telling;
           },
           names_more around.trace telling.trace around.steps telling.steps around_names unread (nameless_changes telling.trace nameless)
               (acts_unnamed from.count None None [] new last telling.trace telling.steps telling.acts unread),
@@ -130,6 +130,6 @@ module _ {doer mid : ParticipantView} {names given : NamesView} {from at between
       line_halted from.count (did_in me from end) line (moment me doer from) (moment me last end) facts known (reading_names goes) tree refl
       (did.does.held ++ [], subst AreOnce (sym (append-nil did.does.held)) did.does.once,
         then_halts from.count (did_in me from to) (did_in me to end) (did_in me from end) (moment me doer from) (moment me new to)
-            (moment me last end) (λ one two. did_then one two) [] (reading_names goes) (left_of heap left) around
+            (moment me last end) (λ one two. did_then) [] (reading_names goes) (left_of heap left) around
             (told_alike (λ count did before behind. Halts [] count did (left_of heap left) before behind) to.count from.count to end
             new.party.me me (λ moment. moment) (λ moment. moment) new last mine count halts))

@@ -1,5 +1,5 @@
 -- A memzone goes with the names and its heap in hand, and its element is freed.
-use Rattle.std.proofs.Common.{◌≡◌, ◌≢◌, ◌∙◌, ℕ, ◌+◌, ◌<◌, drop, take, get_or, eq-eqb, eqb, List, [], ◌∷◌, ◌++◌, append-nil, append_assoc, map, Option, None, Some, true, refl, ap, ap₂, sym, subst, inl, inr, arith}
+use Rattle.std.proofs.Common.{◌≡◌, ◌≢◌, ◌∙◌, ℕ, Bool, ◌+◌, ◌<◌, drop, take, get_or, eq-eqb, eqb, List, [], ◌∷◌, ◌++◌, append-nil, append_assoc, map, Option, None, Some, true, refl, ap, ap₂, sym, subst, inl, inr, arith}
 use Rattle.std.specs.List.{Contains, filter}
 use Rattle.std.proofs.lemmas.List.{drop_more, take-append-drop}
 use Rattle.std.proofs.lemmas.List.Elements.{Contains-append_cases}

@@ -116,9 +116,9 @@ module _ (first second third last : HallState) (doer mid after : ParticipantView
         let behind = back rest in
         record {
           does = does_then first.count (did_in me first third) (did_in me third last) (did_in me first last) doing rest rest (moment me doer first)
-              (moment_with next me after third) (moment me after last) (λ one two. did_then one two)
+              (moment_with next me after third) (moment me after last) (λ one two. did_then)
               (does_then first.count (did_in me first second) (did_in me second third) (did_in me first third) doing doing rest (moment me doer first)
-              (moment_with heap me mid second) (moment_with next me after third) (λ one two. did_then one two) front middle.0)
+              (moment_with heap me mid second) (moment_with next me after third) (λ one two. did_then) front middle.0)
               behind;
           names = changes_between names given front.trace middle.0.trace behind.trace (still_leads doing front.trace front.leads)
               (still_leads rest behind.trace behind.leads) middle.1;

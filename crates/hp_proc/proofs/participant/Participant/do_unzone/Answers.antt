@@ -24,6 +24,7 @@ use Rattle.hp_proc.specs.ParticipantView.{ParticipantView}
 use Rattle.hp_proc.specs.SharedNames.{SharedNames, zone_named}
 use Rattle.hp_proc.specs.ZoneLines.{freeing_zone}
 use Rattle.hp_serve.proofs.AskingFacts.AskedAlong.{if_ok, on_err_any}
+use Rattle.hp_serve.proofs.Carrying.{same_then}
 use Rattle.hp_proc.proofs.Halted.{line_halted}
 use Rattle.hp_proc.proofs.HandFacts.OnceHeld.{once_none}
 use Rattle.hp_proc.proofs.LineFacts.{facts_for, facts_known}
@@ -122,18 +123,116 @@ returns-clause-does g c =
     let facts = facts_for doer.party.socket doer.context line.act None in
     let known = facts_known doer.party.socket doer.context line None (subst (λ (deed : Act). HasLineRequest deed None) (sym c.requires.act) tt) in
     let goes : SharedNames → Doing = λ names. freeing_zone (searched_heap_at doer.context.pools) (zone_named c.args.name.now.text names) in
-    let rest = left_of c.in_ok-freed.heap c.in_ok-freed.left in
+    let rest = left_of c.in_ok-left.heap c.in_ok-left.left in
     let did : DoesNamedOnce me mid after names given at between (goes (shared_of names)) rest =
     subst (λ (pools : List PoolLine). DoesNamedOnce me mid after names given at between
     (freeing_zone (searched_heap_at pools) (zone_named c.args.name.now.text (shared_of names))) rest)
     (ap (λ (context : Context). context.pools) held.context)
     (subst (λ (who : ℕ). DoesNamedOnce who mid after names given at between
     (freeing_zone (searched_heap_at mid.context.pools) (zone_named c.args.name.now.text (shared_of names))) rest) held.same.me
-    c.in_ok-freed.ensures.does) in
+    c.in_ok-left.ensures.does) in
     let count =
     back.others.later.count
     ∙ ((g.met.H.Hall.goes_on_later _ _ c.unzone_named-freed.ensures.goes_on).count ∙ (g.met.H.Hall.goes_on_later _ _ c.take_names.ensures.goes_on).count) in
     if_ok _ (λ told. DoesLineHere me doer last from end line told) c.tell.result
     (λ told tells. line_told held back.given back.slots back.others line facts known goes
-    (unzones line c.args.name.now facts c.requires.act c.requires.attached) after last end c.in_ok-freed.left c.in_ok-freed.heap did mine count told
+    (unzones line c.args.name.now facts c.requires.act c.requires.attached) after last end c.in_ok-left.left c.in_ok-left.heap did mine count told
     tells (act.Unzone c.args.name.now) c.requires.act (may_have c.args.name.now) called.context c.tell.ensures.ready.context) c.tell.ensures.does
+
+pub returns-clause-halts : goal.returns-clause-halts
+returns-clause-halts g c =
+    let doer = c.args.self.now in
+    let me = doer.party.me in
+    let mid = c.take_names.new.self in
+    let after = c.unzone_named-freed.new.self in
+    let last = c.tell.new.self in
+    let line = c.args.line.now in
+    let names = c.in_ok-names.names in
+    let given = c.unzone_named-freed.new.names in
+    let from = g.H.Hall.state c.args.hall.now in
+    let at = g.H.Hall.state c.take_names.new.hall in
+    let between = g.H.Hall.state c.unzone_named-freed.new.hall in
+    let to = g.H.Hall.state c.give_names.new.hall in
+    let end = g.H.Hall.state c.tell.new.hall in
+    let held = c.in_ok-names.ensures.held in
+    let called = c.unzone_named-freed.ensures.ready in
+    let mine = called.same.me ∙ held.same.me in
+    let back = own_gave mine c.give_names.ensures.gave in
+    let facts = facts_for doer.party.socket doer.context line.act None in
+    let known = facts_known doer.party.socket doer.context line None (subst (λ (deed : Act). HasLineRequest deed None) (sym c.requires.act) tt) in
+    let goes : SharedNames → Doing = λ names. freeing_zone (searched_heap_at doer.context.pools) (zone_named c.args.name.now.text names) in
+    let rest = left_of c.in_ok-left.heap c.in_ok-left.left in
+    let did : DoesNamedOnce me mid after names given at between (goes (shared_of names)) rest =
+    subst (λ (pools : List PoolLine). DoesNamedOnce me mid after names given at between
+    (freeing_zone (searched_heap_at pools) (zone_named c.args.name.now.text (shared_of names))) rest)
+    (ap (λ (context : Context). context.pools) held.context)
+    (subst (λ (who : ℕ). DoesNamedOnce who mid after names given at between
+    (freeing_zone (searched_heap_at mid.context.pools) (zone_named c.args.name.now.text (shared_of names))) rest) held.same.me
+    c.in_ok-left.ensures.does) in
+    let count =
+    back.others.later.count
+    ∙ ((g.met.H.Hall.goes_on_later _ _ c.unzone_named-freed.ensures.goes_on).count ∙ (g.met.H.Hall.goes_on_later _ _ c.take_names.ensures.goes_on).count) in
+    on_err_weaker c.tell.result
+    (λ halts. told_stopped held back.given back.slots back.others line facts known goes
+    (unzones line c.args.name.now facts c.requires.act c.requires.attached) after last end c.in_ok-left.left c.in_ok-left.heap did mine count halts)
+    c.tell.ensures.halts
+
+pub returns-clause-goes_on : goal.returns-clause-goes_on
+returns-clause-goes_on g c =
+    g.met.H.Hall.goes_on_then _ _ _
+    (g.met.H.Hall.goes_on_then _ _ _ (g.met.H.Hall.goes_on_then _ _ _ c.take_names.ensures.goes_on c.unzone_named-freed.ensures.goes_on)
+    c.give_names.ensures.goes_on) c.tell.ensures.goes_on
+
+-- IT STOPPED MEANWHILE
+
+pub returns-in_err-left-clause-goes_on : goal.returns-in_err-left-clause-goes_on
+returns-in_err-left-clause-goes_on g c =
+    g.met.H.Hall.goes_on_then _ _ _ (g.met.H.Hall.goes_on_then _ _ _ c.take_names.ensures.goes_on c.unzone_named-freed.ensures.goes_on)
+    c.give_names.ensures.goes_on
+
+pub returns-in_err-left-clause-ready : goal.returns-in_err-left-clause-ready
+returns-in_err-left-clause-ready g c =
+    let doer = c.args.self.now in
+    let after = c.unzone_named-freed.new.self in
+    let given = c.unzone_named-freed.new.names in
+    let between = g.H.Hall.state c.unzone_named-freed.new.hall in
+    let held = c.in_ok-names.ensures.held in
+    let called = c.unzone_named-freed.ensures.ready in
+    let mine = called.same.me ∙ held.same.me in
+    let back = own_gave mine c.give_names.ensures.gave in
+    record {
+      same = same_then doer.party c.take_names.new.self.party after.party held.same called.same;
+      ready = ready_around held back.given back.slots back.others
+          (subst (λ (who : ℕ). IsReadyNamed who after given between) held.same.me called.ready);
+    }
+
+pub returns-in_err-left-clause-halts : goal.returns-in_err-left-clause-halts
+returns-in_err-left-clause-halts g c =
+    let doer = c.args.self.now in
+    let me = doer.party.me in
+    let mid = c.take_names.new.self in
+    let after = c.unzone_named-freed.new.self in
+    let line = c.args.line.now in
+    let names = c.in_ok-names.names in
+    let given = c.unzone_named-freed.new.names in
+    let from = g.H.Hall.state c.args.hall.now in
+    let at = g.H.Hall.state c.take_names.new.hall in
+    let between = g.H.Hall.state c.unzone_named-freed.new.hall in
+    let to = g.H.Hall.state c.give_names.new.hall in
+    let held = c.in_ok-names.ensures.held in
+    let called = c.unzone_named-freed.ensures.ready in
+    let mine = called.same.me ∙ held.same.me in
+    let back = own_gave mine c.give_names.ensures.gave in
+    let facts = facts_for doer.party.socket doer.context line.act None in
+    let known = facts_known doer.party.socket doer.context line None (subst (λ (deed : Act). HasLineRequest deed None) (sym c.requires.act) tt) in
+    let goes : SharedNames → Doing = λ names. freeing_zone (searched_heap_at doer.context.pools) (zone_named c.args.name.now.text names) in
+    let did : HaltsNamedOnce me mid after names given at between (goes (shared_of names)) =
+    subst (λ (pools : List PoolLine). HaltsNamedOnce me mid after names given at between
+    (freeing_zone (searched_heap_at pools) (zone_named c.args.name.now.text (shared_of names))))
+    (ap (λ (context : Context). context.pools) held.context)
+    (subst (λ (who : ℕ). HaltsNamedOnce who mid after names given at between
+    (freeing_zone (searched_heap_at mid.context.pools) (zone_named c.args.name.now.text (shared_of names)))) held.same.me
+    c.in_err-left.ensures.halts) in
+    on_err_any _ _
+    (line_stopped held back.given back.slots back.others line facts known goes
+    (unzones line c.args.name.now facts c.requires.act c.requires.attached) did)

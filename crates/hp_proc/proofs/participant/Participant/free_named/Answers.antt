@@ -43,14 +43,14 @@ cut_held-requires g c =
     let next = c.free_zone_in.new.heap in
     let state = g.H.Hall.state c.args.hall.now in
     let names = c.args.names.now in
-    let given : NamesView = record names { zones = c.remove-_gone.new.self } in
+    let given : NamesView = record names { zones = c.remove-gone.new.self } in
     let zone = c.args.zone.now in
     let hand = c.requires.holds.in_hand in
     let step = c.free_zone_in.ensures.step in
     let counted = c.free_zone_in.ensures.counted in
     let frees =
-    freed_of names.zones given.zones c.as_bytes.result.now zone.name zone c.remove-_gone.result c.as_bytes.ensures.text c.requires.found
-    c.remove-_gone.ensures.freed c.remove-_gone.ensures.not_found in
+    freed_of names.zones given.zones c.as_bytes.result.now zone.name zone c.remove-gone.result c.as_bytes.ensures.text c.requires.found
+    c.remove-gone.ensures.freed c.remove-gone.ensures.not_found in
     record {
       holds = holds_on
           (keeps_front doer mid mid names given heap next next state state zone step counted c.requires.holds c.requires.names frees refl c.requires.there)
@@ -72,13 +72,13 @@ returns g c =
     let from = g.H.Hall.state c.args.hall.now in
     let to = g.H.Hall.state c.cut_held.new.hall in
     let names = c.args.names.now in
-    let given : NamesView = record names { zones = c.remove-_gone.new.self } in
+    let given : NamesView = record names { zones = c.remove-gone.new.self } in
     let zone = c.args.zone.now in
     let step = c.free_zone_in.ensures.step in
     let counted = c.free_zone_in.ensures.counted in
     let frees =
-    freed_of names.zones given.zones c.as_bytes.result.now zone.name zone c.remove-_gone.result c.as_bytes.ensures.text c.requires.found
-    c.remove-_gone.ensures.freed c.remove-_gone.ensures.not_found in
+    freed_of names.zones given.zones c.as_bytes.result.now zone.name zone c.remove-gone.result c.as_bytes.ensures.text c.requires.found
+    c.remove-gone.ensures.freed c.remove-gone.ensures.not_found in
     let is = c.cut_held.ensures in
     let place_of = searched_heap_at doer.context.pools in
     record {

@@ -58,8 +58,9 @@ free_named-left-requires-clause-names g c =
 pub free_named-left-requires-clause-its : goal.free_named-left-requires-clause-its
 free_named-left-requires-clause-its g c =
     c.place_at-place.ensures.place
+    ∙ (ap (λ (doer : ParticipantView). searched_heap_at doer.context.pools c.args.zone.now.heap) c.self.view_is
     ∙ (ap (λ (context : Context). searched_heap_at context.pools c.args.zone.now.heap) (sym c.hold.ensures.context)
-    ∙ ap (searched_heap_at c.hold.new.self.context.pools) (sym c.in_ok-heap.ensures.hand.index))
+    ∙ ap (searched_heap_at c.hold.new.self.context.pools) (sym c.in_ok-heap.ensures.hand.index)))
 
 pub free_named-left-requires-clause-there : goal.free_named-left-requires-clause-there
 free_named-left-requires-clause-there g c = sym c.in_ok-heap.ensures.hand.index

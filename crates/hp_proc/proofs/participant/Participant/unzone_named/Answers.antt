@@ -30,8 +30,8 @@ module _ {me : ℕ} {doer : ParticipantView} {names : NamesView} {state : HallSt
   no_zone : IsNotFound names.zones.zones text → zone_named text (shared_of names) ≡ None
   no_zone none = ap (find (has_name text)) (sym ready.sound.0.replayed) ∙ (looking_agrees names.zones.zones text).none none
 
-pub free_there-left-requires : goal.free_there-left-requires
-free_there-left-requires g c = record {
+pub free_there-requires : goal.free_there-requires
+free_there-requires g c = record {
   ready = c.requires.ready;
   found = record { there = c.in-Some.ensures.found.there; named = refl };
 }
@@ -40,11 +40,11 @@ pub returns-clause-does : goal.returns-clause-does
 returns-clause-does g c =
     let doer = c.args.self.now in
     let me = doer.party.me in
-    let after = c.free_there-left.new.self in
+    let after = c.free_there.new.self in
     let names = c.args.names.now in
-    let given = c.free_there-left.new.names in
+    let given = c.free_there.new.names in
     let a = g.H.Hall.state c.args.hall.now in
-    let b = g.H.Hall.state c.free_there-left.new.hall in
+    let b = g.H.Hall.state c.free_there.new.hall in
     let zone = c.in-Some.found.now in
     let text = c.args.name.now.text in
     let did : DoesNamed (zone.heap ∷ []) me doer after names given a b (freeing_zone (searched_heap_at doer.context.pools) (Some zone))
@@ -75,11 +75,11 @@ pub returns-in_err-left-clause-halts : goal.returns-in_err-left-clause-halts
 returns-in_err-left-clause-halts g c =
     let doer = c.args.self.now in
     let me = doer.party.me in
-    let after = c.free_there-left.new.self in
+    let after = c.free_there.new.self in
     let names = c.args.names.now in
-    let given = c.free_there-left.new.names in
+    let given = c.free_there.new.names in
     let a = g.H.Hall.state c.args.hall.now in
-    let b = g.H.Hall.state c.free_there-left.new.hall in
+    let b = g.H.Hall.state c.free_there.new.hall in
     let zone = c.in-Some.found.now in
     let did : HaltsNamed (zone.heap ∷ []) me doer after names given a b (freeing_zone (searched_heap_at doer.context.pools) (Some zone)) =
     c.in_err-left.ensures.halts in
@@ -90,3 +90,6 @@ returns-in_err-left-clause-halts g c =
     (subst (λ (text : List ℕ). IsFound names.zones.zones text zone) c.as_bytes.ensures.text c.in-Some.ensures.found)))
     (record { heaps = zone.heap ∷ []; once = once_one zone.heap; halts = did }) in
     on_err_any _ _ halts
+
+pub returns-in_default-clause-goes_on : goal.returns-in_default-clause-goes_on
+returns-in_default-clause-goes_on g c = g.met.H.Hall.goes_on_same _
