@@ -1,8 +1,8 @@
 -- A worked value: the names' end of a workload without pools and lines, so that what it says is met by some run. There the heaps are vacant; what
 -- the clauses say where something is there, other worked values show one by one.
-use Rattle.std.proofs.Common.{◌≡◌, ◌∙◌, ℕ, zero, suc, ◌+◌, ◌≤◌, List, [], ◌∷◌, ◌++◌, flat_map, length, map, Option, Some, None, refl, ap, sym, subst, arith}
+use Rattle.std.proofs.Common.{◌≡◌, ◌∙◌, ℕ, zero, suc, ◌+◌, List, [], ◌∷◌, ◌++◌, flat_map, map, Option, Some, None, refl, ap, sym, subst, arith}
 use Rattle.std.specs.Prelude.{slice_get}
-use Rattle.std.specs.List.{All, AllByRecursion, Contains, range_with_len}
+use Rattle.std.specs.List.{All, AllByRecursion, range_with_len}
 use Rattle.std.specs.List.Sorted.{IsNonDecreasing, IsPermutation}
 use Rattle.std.specs.Option.{option_and_then, option_map_or}
 use Rattle.std.proofs.lemmas.List.Elements.{All-cons, All-nil}
@@ -27,7 +27,7 @@ use Rattle.hp_proc.proofs.SocketNames.{no_name}
 use Rattle.hp_proc.specs.Handed.{AreHanded, AreStatesHanded}
 use Rattle.hp_proc.specs.Heaps.{sockets_of}
 use Rattle.hp_proc.specs.LinesDone.{Course}
-use Rattle.hp_proc.specs.NamesAtEnd.{AreClaimsOf, AreElementsOf, AreHandedTogether, called, chunks_at}
+use Rattle.hp_proc.specs.NamesAtEnd.{AreElementsOf, AreHandedTogether, called, chunks_at}
 use Rattle.hp_proc.specs.OneThread.{AreHandedInOrder, IsMoment}
 use Rattle.hp_proc.specs.NamesLog.{changes_made}
 use Rattle.hp_proc.specs.RunEnds.{EndsWithNames, HasAttached, did_of}
