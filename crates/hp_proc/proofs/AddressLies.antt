@@ -149,16 +149,16 @@ pub lies_still : (me : ℕ) (old new : HallState) (given : Answer) → TableStay
 lies_still me old new (answer.Address address) stays marks lies = λ joined.
     ⊎_elim
     (λ (known : LiesIn (rows_known (old.seen me) (old.own me)) address). inl
-      (subst (λ (log : List LogRecord). LiesIn (rows_known log (new.own me)) address) (sym stays.seen)
-      (subst (λ (own : Own). LiesIn (rows_known (old.seen me) own) address) (sym stays.own) known)))
+    (subst (λ (log : List LogRecord). LiesIn (rows_known log (new.own me)) address) (sym stays.seen)
+    (subst (λ (own : Own). LiesIn (rows_known (old.seen me) own) address) (sym stays.own) known)))
     (λ (has : LiesInMarked (marked_in me old) address). inr
-      (record {
-        heap = has.heap;
-        few = has.few;
-        chunk = has.chunk;
-        among = subst (λ (chunks : List Chunk). Contains chunks has.chunk) (sym (marks has.heap)) has.among;
-        lies = has.lies;
-      }))
+    (record {
+      heap = has.heap;
+      few = has.few;
+      chunk = has.chunk;
+      among = subst (λ (chunks : List Chunk). Contains chunks has.chunk) (sym (marks has.heap)) has.among;
+      lies = has.lies;
+    }))
     (lies (sym stays.joined ∙ joined))
 lies_still me old new _ stays marks lies = lies
 
@@ -168,27 +168,27 @@ pub lies_in_table : (me : ℕ) (party : Party) (state : HallState) (given : Answ
 lies_in_table me party state (answer.Address address) tied joined lies =
     ⊎_elim
     (λ (known : LiesIn (rows_known (state.seen me) (state.own me)) address).
-      (let has : table_in party.maps.rows ≡ rows_known (state.seen me) (state.own me) =
-      tied.table.table.rows
-      ∙ ap (λ (joined : Bool). rows_known (state.seen me) (part_of joined (state.own me))) (sym tied.same ∙ joined) in
-      record {
-        row = known.row;
-        among = contains_unkept is_of_log party.maps.rows known.row (subst (λ (rows : List Row). Contains rows known.row) (sym has) known.among);
-        from = known.from;
-        below = known.below;
-      }))
+    (let has : table_in party.maps.rows ≡ rows_known (state.seen me) (state.own me) =
+    tied.table.table.rows
+    ∙ ap (λ (joined : Bool). rows_known (state.seen me) (part_of joined (state.own me))) (sym tied.same ∙ joined) in
+    record {
+      row = known.row;
+      among = contains_unkept is_of_log party.maps.rows known.row (subst (λ (rows : List Row). Contains rows known.row) (sym has) known.among);
+      from = known.from;
+      below = known.below;
+    }))
     (λ (has : LiesInMarked (marked_in me state) address).
-      (let all : filter (is_of_chunk has.chunk) (chunk_rows party.maps.rows) ≡ rows_of_chunk has.chunk =
-      All-contains (λ (chunk : Chunk). filter (is_of_chunk chunk) (chunk_rows party.maps.rows) ≡ rows_of_chunk chunk) (marked_in me state has.heap)
-      has.chunk (tied.table.table.chunks.each has.heap has.few) has.among in
-      let its : Contains (chunk_rows party.maps.rows) has.lies.row =
-      contains_unkept (is_of_chunk has.chunk) (chunk_rows party.maps.rows) has.lies.row
-      (subst (λ (rows : List Row). Contains rows has.lies.row) (sym all) has.lies.among) in
-      record {
-        row = has.lies.row;
-        among = in_table party.maps.rows has.lies.row its;
-        from = has.lies.from;
-        below = has.lies.below;
-      }))
+    (let all : filter (is_of_chunk has.chunk) (chunk_rows party.maps.rows) ≡ rows_of_chunk has.chunk =
+    All-contains (λ (chunk : Chunk). filter (is_of_chunk chunk) (chunk_rows party.maps.rows) ≡ rows_of_chunk chunk) (marked_in me state has.heap)
+    has.chunk (tied.table.table.chunks.each has.heap has.few) has.among in
+    let its : Contains (chunk_rows party.maps.rows) has.lies.row =
+    contains_unkept (is_of_chunk has.chunk) (chunk_rows party.maps.rows) has.lies.row
+    (subst (λ (rows : List Row). Contains rows has.lies.row) (sym all) has.lies.among) in
+    record {
+      row = has.lies.row;
+      among = in_table party.maps.rows has.lies.row its;
+      from = has.lies.from;
+      below = has.lies.below;
+    }))
     (lies joined)
 lies_in_table me party state _ tied joined lies = tt

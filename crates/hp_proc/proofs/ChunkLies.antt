@@ -45,11 +45,11 @@ lies_below run (suc n) address from below = elim (cases_lt address (run.addr + n
         below = found.below;
       })
   | inr late ↦ record {
-      row = row_of run 0 n;
-      among = Contains-push (rows_below run 0 n) (row_of run 0 n);
-      from = late;
-      below = omega (arith, below);
-    }
+    row = row_of run 0 n;
+    among = Contains-push (rows_below run 0 n) (row_of run 0 n);
+    from = late;
+    below = omega (arith, below);
+  }
 ]
 
 -- a byte of a chunk lies in one of its pages
@@ -82,8 +82,11 @@ chunk_with who heap range address tiled external among usable from below =
     (and_from (nat_le range.addr address) _ (le-leb range.addr address from) (lt-ltb address (range.addr + range.whole) below))
     (and_from (eqb range.list range.list) _ (eq-eqb range.list range.list refl) (eq-eqb range.page range.page refl)) in
     let some : 0 < count_by (in_segment_of range.list range.page address) (segments_of heap) =
-    omega (arith, some_counted (in_range_of range.list range.page address) heap.ranges range here among,
-      tiled.tiling.one_list range.list range.page address) in
+    omega (
+      arith,
+      some_counted (in_range_of range.list range.page address) heap.ranges range here among,
+      tiled.tiling.one_list range.list range.page address,
+    ) in
     let found = counted_some (in_segment_of range.list range.page address) (segments_of heap) some in
     let none : heap.pages ≡ [] = subst (λ (serves : Option ℕ). HasKind serves heap.pages heap.chunks) external tiled.kind in
     let all : segments_of heap ≡ map chunk_extent heap.chunks =

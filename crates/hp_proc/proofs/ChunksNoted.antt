@@ -72,20 +72,20 @@ module _ (who index addr len : ℕ) where
   mapped_last None (done ∷ trace) leads = elim leads [ ]
   mapped_last (Some chunk) trace leads = marked_last chunk (has_bit chunk.attached who) trace leads
 
-  unless_last : (data : Option ℕ) (trace : List Done) → Leads (leaving_unless index addr len data) trace (Doing.Ended answer.Done)
+  unless_last : (found : Option ℕ) (trace : List Done) → Leads (leaving_unless index addr len found) trace (Doing.Ended answer.Done)
       → last_heap (calls_in trace) ≡ Some index
   unfolding Leads Goes
   unless_last None trace leads = called_last index (call.Unshare addr len) trace leads
   unless_last (Some address) [] leads = absurd cc
   unless_last (Some address) (done ∷ trace) leads = elim leads [ ]
 
-  had_last : (data : Option ℕ) (mark : Bool) (trace : List Done)
-      → Leads (cond mark (leaving_unless index addr len data) (Doing.Ended answer.NotAttached)) trace (Doing.Ended answer.Done)
+  had_last : (found : Option ℕ) (mark : Bool) (trace : List Done)
+      → Leads (cond mark (leaving_unless index addr len found) (Doing.Ended answer.NotAttached)) trace (Doing.Ended answer.Done)
       → last_heap (calls_in trace) ≡ Some index
   unfolding Leads Goes
-  had_last data true trace leads = unless_last data trace leads
-  had_last data false [] leads = absurd cc
-  had_last data false (done ∷ trace) leads = elim leads [ ]
+  had_last found true trace leads = unless_last found trace leads
+  had_last found false [] leads = absurd cc
+  had_last found false (done ∷ trace) leads = elim leads [ ]
 
   left_last : (heap : PlainHeap) (found : Option Chunk) (trace : List Done)
       → Leads (leaving_chunk who index addr len heap found) trace (Doing.Ended answer.Done) → last_heap (calls_in trace) ≡ Some index

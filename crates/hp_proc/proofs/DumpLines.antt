@@ -97,8 +97,7 @@ module _ (doer mid : ParticipantView) (old at : HallState) (line : Line) (name :
   stops_holding place new after found read halts =
       line_halted old.count (did_in me old new) line (moment me doer old) (moment me after new) facts
       (facts_known doer.party.socket doer.context line None (subst (λ (deed : Act). HasLineRequest deed None) (sym its_act) tt))
-      (reading_names goes) (dump_tree line name facts its_act attached) refl
-      (
+      (reading_names goes) (dump_tree line name facts its_act attached) refl (
         place.index ∷ [],
         once_one place.index,
         halts_more (place.index ∷ []) old at new mid.party.me me (λ moment. moment) (λ moment. moment) mid after (moment me doer old)

@@ -13,7 +13,7 @@ use Rattle.hp_proc.proofs.LineEnds.{RegistersNone, ends_as_it_was}
 use Rattle.hp_proc.proofs.LineFacts.{AwaitsNone, awaits_none, facts_for, facts_known, has_request}
 use Rattle.hp_proc.proofs.LinesNamed.{line_stopped, names_around}
 use Rattle.hp_proc.proofs.LinesOrdered.{acts_ordered, acts_told}
-use Rattle.hp_proc.proofs.NamesAround.{does_around, named_ready}
+use Rattle.hp_proc.proofs.NamesAround.{around_trace, does_around, named_ready}
 use Rattle.hp_proc.specs.Contexts.{AreFactsOf, Context}
 use Rattle.hp_proc.specs.Courses.{after_line, calls_in, last_heap}
 use Rattle.hp_proc.specs.Doing.{Doing, Done, Leads}
@@ -80,12 +80,12 @@ last_as (act.Unmap heap addr len) index one other same last = ap last_heap same 
 last_as _ index one other same last = tt
 
 -- whatever became of it, it is the same participant
-pub named_same : {E : Type 0} {me : ℕ} {old new : ParticipantView} {names given : NamesView} {from to : HallState} {doing : Doing}
+pub named_same : {E : Type 0} (me : ℕ) (old new : ParticipantView) (names given : NamesView) (from to : HallState) (doing : Doing)
     (result : Result Answer E)
     → IfOk result (λ said. DoesNamedOnce me old new names given from to doing (Doing.Ended said))
     → OnErr result (HaltsNamedOnce me old new names given from to doing) → IsSameParty old.party new.party
-named_same (Ok said) does halts = does.does.does.same
-named_same (Err stop) does halts = halts.halts.halts.same
+named_same me old new names given from to doing (Ok said) does halts = does.does.does.same
+named_same me old new names given from to doing (Err stop) does halts = halts.halts.halts.same
 
 -- what two facts of an answer show together
 pub both_ok : {T E : Type 0} {P Q R : T → Type 0} (result : Result T E) → ((value : T) → P value → Q value → R value) → IfOk result P
@@ -126,12 +126,6 @@ module _ {doer mid : ParticipantView} {names given : NamesView} {from at between
   IsDone new told doing = (done : DoesOnceHere me doer new from to doing (Doing.Ended told)) × NamesOfLine done.does.trace done.does.steps
       × (new.context.standing ≡ after_line line told done.does.trace doer.context.standing)
 
-  around_calls : {new : ParticipantView} {heaps : List ℕ} (rest : Doing)
-      (did : DoesNamed heaps me mid new names given at between (goes (shared_of names)) rest)
-      → calls_in (does_around held gave slots others goes rest did).trace ≡ calls_in did.does.trace
-  unfolding does_around
-  around_calls {new} {heaps} rest did = refl
-
   pub line_external : {new : ParticipantView} (told : Answer)
       → DoesNamedOnce mid.party.me mid new names given at between (doing_named mid.party.me mid.context.pools line.act (shared_of names))
       (Doing.Ended told)
@@ -151,7 +145,7 @@ module _ {doer mid : ParticipantView} {names given : NamesView} {from at between
       let trace = first.does.trace in
       let last : (index : ℕ) → IsIndexMeant line.act names.heaps.plain index → told ≡ answer.Done → CallsLast line.act index trace =
       λ index means done.
-      last_as line.act index trace did.does.does.trace (around_calls (Doing.Ended told) here)
+      last_as line.act index trace did.does.does.trace (ap calls_in (around_trace held gave slots others goes (Doing.Ended told) here))
       (calls_last line.participant doer.context.pools names ready.sound.1 sockets line.act index did.does.does.trace means
       (subst (λ (said : Answer). Leads (goes (shared_of names)) did.does.does.trace (Doing.Ended said)) done
       did.does.does.leads)) in

@@ -157,7 +157,7 @@ module _ (old new : ParticipantView) (names given : NamesView) (heap next : Heap
       made_arm (Ok socket) (Err error) is made fault still place = absurd is
       made_arm (Err create.BadName) result is made fault still place = absurd (fault place.name)
       made_arm (Err create.Exists) result is made fault still place = absurd (fault.1 place.fresh)
-      made_arm (Err (create.NoSpace limit)) result is made fault still place = absurd (fault.2.0 place.place)
+      made_arm (Err (create.NoSpace limit)) result is made fault still place = absurd (fault.2 place.place)
       made_arm (Err create.OutOfMemory) (Ok said) is made fault still place = absurd is
       made_arm (Err create.OutOfMemory) (Err error) is made fault still place = record {
         does = tt;
@@ -189,9 +189,9 @@ module _ (old new : ParticipantView) (names given : NamesView) (heap next : Heap
     destroyed_arm (Err (destroy.Busy chunks)) gone fault still named = record {
       does = subst (λ (b : Bool). Does (cond b (changing (OfHeaps (Unnamed at)) (calling at call.Unname (Doing.Ended answer.Done)))
           (Doing.Ended (answer.BusyChunks (min (length heap.plain.chunks) (2 ^ 32 - 1))))) (Doing.Ended (answer.BusyChunks chunks)))
-          (sym (ne_eqb (length heap.plain.chunks) 0 (λ empty. omega (arith, empty, fault.2.0))))
+          (sym (ne_eqb (length heap.plain.chunks) 0 (λ empty. omega (arith, empty, fault.2))))
           (subst (λ (n : ℕ). Does (Doing.Ended (answer.BusyChunks (min (length heap.plain.chunks) (2 ^ 32 - 1)))) (Doing.Ended (answer.BusyChunks n)))
-          (sym fault.2.1) (still_does still (Doing.Ended (answer.BusyChunks (min (length heap.plain.chunks) (2 ^ 32 - 1))))));
+          (sym fault.3) (still_does still (Doing.Ended (answer.BusyChunks (min (length heap.plain.chunks) (2 ^ 32 - 1))))));
       keeps = still_keeps still;
     }
 
@@ -226,6 +226,7 @@ module _ (old new : ParticipantView) (names : NamesView) (heap next : HeapView) 
   }
 
   keeps_left : (gone : DetachesNoted text note old new names.heaps.plain heap next) → KeepsMarked old.party.me old new names heap next state state
+  unfolding left_note
   keeps_left gone =
       let left = left_note gone in
       let index = call_index (caller_of old) (call.Unshare addr len) gives.Done heap next gone.detaches.unshared in
@@ -255,7 +256,7 @@ module _ (old new : ParticipantView) (names : NamesView) (heap next : HeapView) 
 
   does_left : (gone : DetachesNoted text note old new names.heaps.plain heap next)
       → DoesNamedHeld old.party.me old new names names heap next state state (tree (chunk_at addr len heap.plain)) (Doing.Ended answer.Done)
-  unfolding Leads Goes
+  unfolding Leads Goes left_note
   does_left gone =
       let chunk = gone.detaches.chunk in
       subst (λ (found : Option Chunk). DoesNamedHeld old.party.me old new names names heap next state state (tree found) (Doing.Ended answer.Done))

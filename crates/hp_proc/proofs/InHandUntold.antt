@@ -73,6 +73,7 @@ module _ (count : ℕ) where
     where
       none_is : None ≡ Some end → ⊥
       none_is same = cc
+
       by_hand : (at : Option ℕ) → between ≡ at → (between ≡ None → last ≡ None) → ((at : ℕ) → between ≡ Some at → AreUntold first)
           → ((at : ℕ) → between ≡ Some at → AreUntold rest) → AreUntold (first ++ rest)
       by_hand None missing ended front behind = absurd (none_is (sym (ended missing) ∙ ends))

@@ -83,6 +83,7 @@ module _ {doer mid : ParticipantView} {names given : NamesView} {from at between
   around = does_around held gave slots others goes (left_of heap left) named
 
   around_names : NamesOfLine around.trace around.steps
+  unfolding around
   around_names = names_around held gave slots others line facts known goes tree (left_of heap left) named
 
   module _ (told : Answer) (tells : DoesHere [] new.party.me new last to end (left_of heap left) (Doing.Ended told)) where
@@ -100,8 +101,7 @@ module _ {doer mid : ParticipantView} {names given : NamesView} {from at between
     unfolding does_then
     whole =
         let nameless = only_leads IsNameless (left_of heap left) telling.trace (Doing.Ended told) (left_nameless heap left) telling.leads in
-        let unread = nameless_read telling.trace nameless in
-        (
+        let unread = nameless_read telling.trace nameless in (
           record {
             held = did.does.held ++ [];
             once = subst AreOnce (sym (append-nil did.does.held)) did.does.once;
@@ -127,9 +127,11 @@ module _ {doer mid : ParticipantView} {names given : NamesView} {from at between
   -- or it stopped over that
   pub told_stopped : HaltsHere [] new.party.me new last to end (left_of heap left) → HaltsLineHere me doer last from end line
   told_stopped halts =
-      line_halted from.count (did_in me from end) line (moment me doer from) (moment me last end) facts known (reading_names goes) tree refl
-      (did.does.held ++ [], subst AreOnce (sym (append-nil did.does.held)) did.does.once,
+      line_halted from.count (did_in me from end) line (moment me doer from) (moment me last end) facts known (reading_names goes) tree refl (
+        did.does.held ++ [],
+        subst AreOnce (sym (append-nil did.does.held)) did.does.once,
         then_halts from.count (did_in me from to) (did_in me to end) (did_in me from end) (moment me doer from) (moment me new to)
             (moment me last end) (λ one two. did_then) [] (reading_names goes) (left_of heap left) around
             (told_alike (λ count did before behind. Halts [] count did (left_of heap left) before behind) to.count from.count to end
-            new.party.me me (λ moment. moment) (λ moment. moment) new last mine count halts))
+            new.party.me me (λ moment. moment) (λ moment. moment) new last mine count halts),
+      )

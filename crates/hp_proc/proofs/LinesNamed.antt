@@ -71,8 +71,7 @@ module _ {doer mid : ParticipantView} {names given : NamesView} {from at between
   line_named {new} deed told its may did knew =
       let here : DoesNamed did.does.held me mid new names given at between (goes (shared_of names)) (Doing.Ended told) =
       record { does = did.does.does; names = did.names } in
-      let first : IsDone new told (reading_names goes) =
-      (
+      let first : IsDone new told (reading_names goes) = (
         record { held = did.does.held; once = did.does.once; does = does_around held gave slots others goes (Doing.Ended told) here },
         names_around (Doing.Ended told) here,
       ) in

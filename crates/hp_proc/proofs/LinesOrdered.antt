@@ -255,9 +255,14 @@ module _ (count : ℕ) where
   stopped_along names teller doer after heap run steps (StopsNotifying.no_number out same none) =
       subst (Along ComesAfterHand (slots None names) (slots None names)) (sym none) refl
   stopped_along names teller doer after heap run steps (StopsNotifying.stops frame posted since waited says waits are) =
-      subst (Along ComesAfterHand (slots None names) (slots None names)) (sym are)
-      (tt, (tt, (aside_by ComesAfterHand comes_suits IsQuiet comes_allows count None names waited waited tt refl
-      (wait_aside (denials_of teller.context.standing) count _ true _ after.party waited None waits)).0))
+      subst (Along ComesAfterHand (slots None names) (slots None names)) (sym are) (
+        tt,
+        (
+          tt,
+          (aside_by ComesAfterHand comes_suits IsQuiet comes_allows count None names waited waited tt refl
+              (wait_aside (denials_of teller.context.standing) count _ true _ after.party waited None waits)).0,
+        ),
+      )
 
   on_along : (names : Bool) (hand last : Option ℕ) (held : List ℕ) (doer after : ParticipantView) (trace : List Done) (steps : List MailStep)
       → ActsOn count hand last held doer after trace steps → IsFewHand hand → IsQuiet names held trace
@@ -279,8 +284,7 @@ module _ (count : ℕ) where
   on_along true _ _ _ _ _ _ _ (ActsOn.holds_names held doer after taken given trace steps acts changes) few ok =
       absurd (some_none (shared_of taken) (names_read trace) (ok refl).0)
   on_along false _ _ _ _ _ _ _ (ActsOn.holds_names held doer after taken given trace steps acts changes) few ok =
-      let inner = on_along true None None held doer after trace steps acts tt (λ is. (changes.unread, changes.untold)) in
-      (
+      let inner = on_along true None None held doer after trace steps acts tt (λ is. (changes.unread, changes.untold)) in (
         (
           comes_suits.names (Names taken),
           along_both ComesAfterHand (NAMES_SLOT ∷ []) (NAMES_SLOT ∷ []) [] steps (Gives NAMES_SLOT (Names given) ∷ []) inner.0 (tt, names_given),

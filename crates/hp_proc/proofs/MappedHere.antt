@@ -302,10 +302,11 @@ module _ (old new : ParticipantView) (names : NamesView) (heap : HeapView) (take
       × KeepsMarked who old d names heap heap a c → Refuses said) only (λ both. record { does = both.0; keeps = both.1 })
       (subst (λ (m : MapsView). (DoesNamedHeld who old (with_party (with_maps m old.party) old) names names heap heap a c
       (tree (chunk_at addr len heap.plain)) (Doing.Ended said)) × KeepsMarked who old (with_party (with_maps m old.party) old) names heap heap a c)
-      (sym same)
-      (subst (λ (doing : Doing). DoesNamedHeld who old old names names heap heap a c doing (Doing.Ended said)) (sym ended)
-      (looked_does old names heap taken text addr len 0 took holds put (Doing.Ended said)),
-      looked_keeps old names heap taken text addr len 0 took holds put))
+      (sym same) (
+        subst (λ (doing : Doing). DoesNamedHeld who old old names names heap heap a c doing (Doing.Ended said)) (sym ended)
+            (looked_does old names heap taken text addr len 0 took holds put (Doing.Ended said)),
+        looked_keeps old names heap taken text addr len 0 took holds put,
+      ))
 
   -- its mapper failed
   module _ (chunk : Chunk) (named : IsNamedChunk names.heaps.plain text heap.plain addr len chunk) (unmarked_is : has_bit chunk.attached who ≡ false)

@@ -135,7 +135,7 @@ module _ (who : ℕ) (pools : List PoolLine) (names : NamesView) (sound : IsDire
       by_names (λ (d : PlainDirectory). making_heap text d ≡ Doing.Ended given)
       (short_tree text plain why.0
       ∙ (ap (λ (b : Bool). fresh_tree b text plain) ((making_agrees plain text sound.indexes).fresh why.1)
-      ∙ (ap (making text plain.next) ((making_agrees plain text sound.indexes).no_place why.2.0)
+      ∙ (ap (making text plain.next) ((making_agrees plain text sound.indexes).no_place why.2)
       ∙ ap Doing.Ended (same_said said))))
   refused_heap text given (create.OutOfMemory, said, why) = absurd (none_said said)
 

@@ -86,13 +86,13 @@ module _ {doer mid : ParticipantView} {names given : NamesView} {from at between
   abbrev pub around : List MailStep → List MailStep
   around steps = held.waited ++ (Takes NAMES_SLOT (Names names) ∷ (steps ++ Gives NAMES_SLOT (Names given) ∷ []))
 
-  around_did : (steps : List MailStep) → Did me steps at between → Did me (around steps) from to
+  pub around_did : (steps : List MailStep) → Did me steps at between → Did me (around steps) from to
   around_did steps did =
       subst (λ (steps : List MailStep). Did me steps from to)
       (append_assoc held.waited (Takes NAMES_SLOT (Names names) ∷ []) (steps ++ Gives NAMES_SLOT (Names given) ∷ []))
       (did_then held.did (did_then did gave.did))
 
-  around_entries : (trace : List Done)
+  pub around_entries : (trace : List Done)
       → ((heap : ℕ) → (between.part me heap).entries
       ≡ (at.part me heap).entries ++ entries_for mid.party.me heap (mid.context.calls + 1) (calls_in trace))
       → (heap : ℕ) → (to.part me heap).entries
@@ -103,7 +103,7 @@ module _ {doer mid : ParticipantView} {names given : NamesView} {from at between
       ∙ ap (λ (who : ℕ). (from.part me heap).entries ++ entries_for who heap (mid.context.calls + 1) (calls_in trace)) held.same.me
       ∙ ap (λ (context : Context). (from.part me heap).entries ++ entries_for doer.party.me heap (context.calls + 1) (calls_in trace)) held.context
 
-  around_counted : (new : ParticipantView) (trace : List Done)
+  pub around_counted : (new : ParticipantView) (trace : List Done)
       → new.context ≡ record (after_calls (length (calls_in trace)) mid.context) { standing = new.context.standing }
       → new.context ≡ record (after_calls (length (calls_in trace)) doer.context) { standing = new.context.standing }
   around_counted new trace counted =
@@ -156,13 +156,13 @@ module _ {doer mid : ParticipantView} {names given : NamesView} {from at between
   -- with the trace and the steps that this has
   pub around_trace : {new : ParticipantView} {heaps : List ℕ} (goes : SharedNames → Doing) (rest : Doing)
       → (did : DoesNamed heaps me mid new names given at between (goes (shared_of names)) rest)
-      → (does_around {new} {heaps} goes rest did).trace ≡ NamesRead (shared_of names) ∷ did.does.trace
+      → (does_around goes rest did).trace ≡ NamesRead (shared_of names) ∷ did.does.trace
   unfolding does_around
   around_trace {new} {heaps} goes rest did = refl
 
   pub around_steps : {new : ParticipantView} {heaps : List ℕ} (goes : SharedNames → Doing) (rest : Doing)
       → (did : DoesNamed heaps me mid new names given at between (goes (shared_of names)) rest)
-      → (does_around {new} {heaps} goes rest did).steps ≡ around did.does.steps
+      → (does_around goes rest did).steps ≡ around did.does.steps
   unfolding does_around
   around_steps {new} {heaps} goes rest did = refl
 

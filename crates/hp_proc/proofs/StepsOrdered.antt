@@ -155,8 +155,7 @@ module _ (P : MailStep → List ℕ → Type 0) where
         subst
         (λ (slot : ℕ). P (Gives slot kept) (MAX_HEAPS ∷ hand)
         × Along P (filter (λ other. not (other == slot)) (MAX_HEAPS ∷ hand)) (with_segs ends) steps)
-        (sym aside.1)
-        (
+        (sym aside.1) (
           suits.gives MAX_HEAPS kept (MAX_HEAPS ∷ hand),
           subst (λ (hand : List ℕ). Along P hand (with_segs ends) steps) (sym (give_back MAX_HEAPS hand low)) (aside_from false ends steps aside.3),
         )
@@ -267,8 +266,7 @@ module _ (P : MailStep → List ℕ → Type 0) (suits : Suits P) (Ok : Bool →
   acts_along names _ _ _ _ _ _ _ (Acts.changes_names hand doer change) few ok = (refl, few)
   acts_along true _ _ _ _ _ _ _ (Acts.holds_names held doer after taken given trace steps acts changes) few ok = absurd (allows.once _ _ _ ok)
   acts_along false _ _ _ _ _ _ _ (Acts.holds_names held doer after taken given trace steps acts changes) few ok =
-      let inner = acts_along true None None held doer after trace steps acts tt (allows.inner held taken given trace changes ok) in
-      (
+      let inner = acts_along true None None held doer after trace steps acts tt (allows.inner held taken given trace changes ok) in (
         (
           suits.names _,
           along_both P (NAMES_SLOT ∷ []) (NAMES_SLOT ∷ []) [] steps (Gives NAMES_SLOT (Names given) ∷ []) inner.0 (suits.gives NAMES_SLOT _ _, names_given),

@@ -80,24 +80,26 @@ halts_nothing : {heaps : List ℕ} (count : ℕ) (did : List MailStep → Type 0
     → (doing : Doing) → (halts : Halts heaps count did doing old new) × (halts.trace ≡ [])
 unfolding Leads
 halts_nothing {heaps} count did old new is doing =
-    let none = ended_leads answer.Done is.trace is.rest is.leads in
-    (record {
-      rest = doing;
-      trace = [];
-      steps = is.steps;
-      held = is.held;
-      others = is.others;
-      front = is.front;
-      leads = refl;
-      made = is.made;
-      acts = subst (λ (trace : List Done). ActsOn count old.hand new.hand is.held (doer_at old) (doer_at new) trace is.steps) none is.acts;
-      entries = λ heap.
-          subst (λ (trace : List Done). (new.parts heap).entries
-          ≡ (old.parts heap).entries ++ entries_for old.party.me heap (old.context.calls + 1) (calls_in trace)) none (is.entries heap);
-      counted = subst (λ (trace : List Done). new.context
-          ≡ record (after_calls (length (calls_in trace)) old.context) { standing = new.context.standing }) none is.counted;
-      same = is.same;
-    }, refl)
+    let none = ended_leads answer.Done is.trace is.rest is.leads in (
+      record {
+        rest = doing;
+        trace = [];
+        steps = is.steps;
+        held = is.held;
+        others = is.others;
+        front = is.front;
+        leads = refl;
+        made = is.made;
+        acts = subst (λ (trace : List Done). ActsOn count old.hand new.hand is.held (doer_at old) (doer_at new) trace is.steps) none is.acts;
+        entries = λ heap.
+            subst (λ (trace : List Done). (new.parts heap).entries
+            ≡ (old.parts heap).entries ++ entries_for old.party.me heap (old.context.calls + 1) (calls_in trace)) none (is.entries heap);
+        counted = subst (λ (trace : List Done). new.context
+            ≡ record (after_calls (length (calls_in trace)) old.context) { standing = new.context.standing }) none is.counted;
+        same = is.same;
+      },
+      refl,
+    )
 
 -- THE ENTRIES OF A HEAP IN HAND
 
@@ -161,7 +163,7 @@ pub record TakesThere (index : ℕ) (old mid : ParticipantView) (names : NamesVi
     : Type 0 where
   pub does : Does (index ∷ []) from.count (did_in old.party.me from at) tree held (moment old.party.me old from)
       (moment_with heap old.party.me mid at)
-  pub names : ChangesNames names names does.trace
+  pub changes : ChangesNames names names does.trace
 
 pub took_there : (old mid : ParticipantView) (names : NamesView) (heap : HeapView) (from at : HallState) (tree held : Doing)
     → ((doing : Doing) → Does (heap.plain.index ∷ []) from.count (did_in old.party.me from at) doing doing (moment old.party.me old from)
@@ -171,14 +173,14 @@ pub took_there : (old mid : ParticipantView) (names : NamesView) (heap : HeapVie
 took_there old mid names heap from at tree held did sees (inr is) =
     subst (λ (tree : Doing). TakesThere heap.plain.index old mid names heap from at tree held) (sym is)
     (let does = did held in
-    record { does = does; names = quiet names does.trace (still_leads held does.trace does.leads) })
+    record { does = does; changes = quiet names does.trace (still_leads held does.trace does.leads) })
 took_there old mid names heap from at tree held did sees (inl first) =
     subst (λ (tree : Doing). TakesThere heap.plain.index old mid names heap from at tree held) (sym first.tree_is)
     (subst (TakesThere heap.plain.index old mid names heap from at (seeing_heap heap.plain.index first.goes)) first.leaves
     (let seen = sees first.goes in
     record {
       does = seen.does;
-      names = subst (ChangesNames names names) (sym seen.alone) (record { changed = refl; unread = refl; untold = (tt, tt) });
+      changes = subst (ChangesNames names names) (sym seen.alone) (record { changed = refl; unread = refl; untold = (tt, tt) });
     }))
 
 module _ (old mid : ParticipantView) (names : NamesView) (heap : HeapView) {from at : HallState} (ready : IsReadyNamed old.party.me old names from)
@@ -250,12 +252,12 @@ module _ (index : ℕ) (old mid new : ParticipantView) (names given : NamesView)
 
   record MidDoes (count who : ℕ) (rest : Doing) : Type 0 where
     does : Does [] count (did_in who at between) held rest (moment_with heap who mid at) (moment_with next who new between)
-    names : ChangesNames names given does.trace
+    changes : ChangesNames names given does.trace
 
   mid_does : (rest : Doing) → DoesNamedHeld mid.party.me mid new names given heap next at between held rest → MidDoes from.count me rest
   mid_does rest is =
       subst (λ (count : ℕ). MidDoes count me rest) many
-      (subst (λ (who : ℕ). MidDoes at.count who rest) mine (record { does = is.does; names = is.names }))
+      (subst (λ (who : ℕ). MidDoes at.count who rest) mine (record { does = is.does; changes = is.names }))
 
   pub there_does : (rest : Doing) → DoesNamedHeld mid.party.me mid new names given heap next at between held rest
       → DoesNamed (index ∷ []) me old new names given from to tree rest
@@ -271,17 +273,17 @@ module _ (index : ℕ) (old mid new : ParticipantView) (names given : NamesView)
         names = subst (λ (last : List Done). ChangesNames names given ((took.does.trace ++ mid_is.does.trace) ++ last))
             (sym (still_leads rest last.trace last.leads))
             (subst (ChangesNames names given) (sym (append-nil (took.does.trace ++ mid_is.does.trace)))
-            (changes_then names given took.does.trace mid_is.does.trace took.names mid_is.names));
+            (changes_then names given took.does.trace mid_is.does.trace took.changes mid_is.changes));
       }
 
   record MidHalts (count who : ℕ) : Type 0 where
     halts : Halts [] count (did_in who at between) held (moment_with heap who mid at) (moment_with next who new between)
-    names : ChangesNames names given halts.trace
+    changes : ChangesNames names given halts.trace
 
   mid_halts : HaltsNamedHeld mid.party.me mid new names given heap next at between held → MidHalts from.count me
   mid_halts is =
       subst (λ (count : ℕ). MidHalts count me) many
-      (subst (λ (who : ℕ). MidHalts at.count who) mine (record { halts = is.halts; names = is.names }))
+      (subst (λ (who : ℕ). MidHalts at.count who) mine (record { halts = is.halts; changes = is.names }))
 
   pub there_halts : HaltsNamedHeld mid.party.me mid new names given heap next at between held
       → HaltsNamed (index ∷ []) me old new names given from to tree
@@ -296,7 +298,7 @@ module _ (index : ℕ) (old mid new : ParticipantView) (names given : NamesView)
         names = subst (λ (last : List Done). ChangesNames names given ((took.does.trace ++ mid_is.halts.trace) ++ last))
             (sym (still_leads first.rest last.trace last.leads))
             (subst (ChangesNames names given) (sym (append-nil (took.does.trace ++ mid_is.halts.trace)))
-            (changes_then names given took.does.trace mid_is.halts.trace took.names mid_is.names));
+            (changes_then names given took.does.trace mid_is.halts.trace took.changes mid_is.changes));
       }
 
 -- THE HEAP IS GIVEN BACK
@@ -340,11 +342,13 @@ module _ (me slot : ℕ) (new : ParticipantView) (given : NamesView) (next : Hea
   given_entries : (heap : ℕ) → (more : List Entry) × (entries_in who to heap ≡ entries_in who between heap ++ more)
   given_entries heap =
       let does = put (Doing.Ended answer.Done) in
-      let held = held_entries who new next between refl holds.holds.in_hand heap in
-      (held.0, does.entries heap
-      ∙ (ap (λ (trace : List Done). (with_hand who next (between.part who) heap).entries
-      ++ entries_for who heap (new.context.calls + 1) (calls_in trace)) (still_leads (Doing.Ended answer.Done) does.trace does.leads)
-      ∙ (append-nil (with_hand who next (between.part who) heap).entries ∙ held.1)))
+      let held = held_entries who new next between refl holds.holds.in_hand heap in (
+        held.0,
+        does.entries heap
+            ∙ (ap (λ (trace : List Done). (with_hand who next (between.part who) heap).entries
+            ++ entries_for who heap (new.context.calls + 1) (calls_in trace)) (still_leads (Doing.Ended answer.Done) does.trace does.leads)
+            ∙ (append-nil (with_hand who next (between.part who) heap).entries ∙ held.1)),
+      )
 
   -- the names are in hand still
   pub ready_there : IsReadyNamed who new given to

@@ -75,7 +75,7 @@ hand_entries who heap parts index same =
     by_test : (b : Bool) → b ≡ true
         → (cond b (record (cond b (record (parts index) { entries = entries_of who heap.history }) (parts index)) {
           naming = option_map (λ (naming : Naming). naming_of heap.plain)
-              (cond b (record (parts index) { entries = entries_of who heap.history }) (parts index)).naming
+              (cond b (record (parts index) { entries = entries_of who heap.history }) (parts index)).naming;
         }) (cond b (record (parts index) { entries = entries_of who heap.history }) (parts index))).entries ≡ entries_of who heap.history
     by_test true is = refl
     by_test false is = cc

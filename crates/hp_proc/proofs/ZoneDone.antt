@@ -1,5 +1,5 @@
 -- A reservation line: it takes the names, is judged and served with them in hand, and gives them back.
-use Rattle.std.proofs.Common.{◌≡◌, ◌∙◌, ℕ, Bool, true, [], Result, Ok, Err, OnErr, refl, ap, sym, subst}
+use Rattle.std.proofs.Common.{◌≡◌, ◌∙◌, ℕ, Bool, true, [], None, Result, Ok, Err, OnErr, refl, ap, sym, subst}
 use Rattle.std.specs.Prelude.{IfOk}
 use Rattle.hp_hall.specs.HallState.{HallState}
 use Rattle.hp_hall.proofs.HallStates.{did_same}

@@ -268,14 +268,14 @@ pub given_agrees : (who : ℕ) (heap : HeapView) (old new : ℕ → HeapPart) �
 given_agrees who heap old new here apart names =
     agree_alike (with_naming heap old) new
     (λ index. ⊎_elim
-      (λ its.
-      subst (λ (at : ℕ). (new at).naming ≡ (with_naming heap old at).naming) (sym its.1)
-      (ap (λ (part : HeapPart). part.naming) here ∙ sym (naming_here heap old heap.plain.index refl)))
-      (λ other. ap (λ (part : HeapPart). part.naming) (apart index other.1 ∙ sym (naming_apart heap old index other.0)))
-      (eqb_tells index heap.plain.index))
+    (λ its.
+    subst (λ (at : ℕ). (new at).naming ≡ (with_naming heap old at).naming) (sym its.1)
+    (ap (λ (part : HeapPart). part.naming) here ∙ sym (naming_here heap old heap.plain.index refl)))
+    (λ other. ap (λ (part : HeapPart). part.naming) (apart index other.1 ∙ sym (naming_apart heap old index other.0)))
+    (eqb_tells index heap.plain.index))
     (λ index. ⊎_elim
-      (λ its.
-      subst (λ (at : ℕ). (new at).claims ≡ (with_naming heap old at).claims) (sym its.1)
-      (ap (λ (part : HeapPart). part.claims) here ∙ sym (naming_claims heap old heap.plain.index)))
-      (λ other. ap (λ (part : HeapPart). part.claims) (apart index other.1 ∙ sym (naming_apart heap old index other.0)))
-      (eqb_tells index heap.plain.index))
+    (λ its.
+    subst (λ (at : ℕ). (new at).claims ≡ (with_naming heap old at).claims) (sym its.1)
+    (ap (λ (part : HeapPart). part.claims) here ∙ sym (naming_claims heap old heap.plain.index)))
+    (λ other. ap (λ (part : HeapPart). part.claims) (apart index other.1 ∙ sym (naming_apart heap old index other.0)))
+    (eqb_tells index heap.plain.index))

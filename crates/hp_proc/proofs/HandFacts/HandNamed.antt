@@ -1,5 +1,5 @@
 -- Names that agree with all that is known of heaps but the one in hand agree so still, once that heap, they, or the claimed memory have changed.
-use Rattle.std.proofs.Common.{◌&&◌, ◌++◌, ◌+◌, ◌<◌, ◌∙◌, ◌∷◌, ◌≡◌, ◌≢◌, Bool, List, None, Option, Some, [], ap, cond, count_by, eq-eqb, eqb, false, filter, map, ne_eqb, refl, subst, sym, true, ℕ}
+use Rattle.std.proofs.Common.{◌&&◌, ◌++◌, ◌+◌, ◌<◌, ◌∙◌, ◌∷◌, ◌≡◌, ◌≢◌, Bool, List, None, Option, Some, [], ap, cond, count_by, eq-eqb, eqb, false, filter, map, ne_eqb, refl, subst, sym, true, ℕ, arith}
 use Rattle.std.proofs.lemmas.Bool.{cond-false, cond-true}
 use Rattle.std.proofs.lemmas.List.Sorted.{sum_by-IsPermutation}
 use Rattle.std.proofs.lemmas.List.{append_assoc}

@@ -79,9 +79,11 @@ beside_taken first second doer mid heap index was names here took gives =
     let me = doer.party.me in
     let one = took (Doing.Ended answer.Done) in
     names_give_on {old = entries_in me first} {new = entries_with me heap second} {taken = was} {given = names}
-    (λ (at : ℕ). (entries_for me at (doer.context.calls + 1) (calls_in one.trace),
+    (λ (at : ℕ). (
+      entries_for me at (doer.context.calls + 1) (calls_in one.trace),
       subst (λ (who : ℕ). (with_hand who heap (second.part me) at).entries
-      ≡ (first.part me at).entries ++ entries_for me at (doer.context.calls + 1) (calls_in one.trace)) here (one.entries at))) gives
+          ≡ (first.part me at).entries ++ entries_for me at (doer.context.calls + 1) (calls_in one.trace)) here (one.entries at),
+    )) gives
 
 module _ (first second third last : HallState) (doer mid after : ParticipantView) (heap next : HeapView) (names given : NamesView) (index : ℕ)
     (here : mid.party.me ≡ doer.party.me) (there : after.party.me ≡ doer.party.me) (count : second.count ≡ first.count)
@@ -129,10 +131,12 @@ module _ (first second third last : HallState) (doer mid after : ParticipantView
   alone_given {was} gives =
       let one = back (Doing.Ended answer.Done) in
       names_give_on {old = entries_with me next third} {new = entries_in me last} {taken = was} {given = given}
-      (λ (at : ℕ). (entries_for after.party.me at (after.context.calls + 1) (calls_in one.trace),
+      (λ (at : ℕ). (
+        entries_for after.party.me at (after.context.calls + 1) (calls_in one.trace),
         subst (λ (who : ℕ). (last.part me at).entries
-        ≡ (with_hand who next (third.part me) at).entries ++ entries_for after.party.me at (after.context.calls + 1) (calls_in one.trace)) there
-        (one.entries at))) gives
+            ≡ (with_hand who next (third.part me) at).entries ++ entries_for after.party.me at (after.context.calls + 1) (calls_in one.trace)) there
+            (one.entries at),
+      )) gives
 
 -- it has the names in hand beside a heap that it took
 pub names_beside : {me : ℕ} {doer mid : ParticipantView} {names : NamesView} {heap : HeapView} {first second : HallState}

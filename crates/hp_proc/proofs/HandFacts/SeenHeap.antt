@@ -39,35 +39,38 @@ pub does_seen : {held : List ℕ} (count : ℕ) (did : List MailStep → Type 0)
     → new.asks ≡ old.asks ++ outcomes → (does : Does held count did (seeing_heap heap.plain.index goes) (goes heap.plain) old new)
     × (does.trace ≡ HeapSeen heap.plain.index heap.history ∷ [])
 unfolding Leads Goes AreAsked
-does_seen {held} count did heap goes old new steps external sound made acts entries serves same known asked more log outcomes asks = (record {
-  trace = HeapSeen heap.plain.index heap.history ∷ [];
-  steps = steps;
-  leads = (heap.history, refl, ap goes (sym (external_is heap external sound)));
-  made = made;
-  acts = acts;
-  entries = λ index. entries index ∙ sym (append-nil (old.parts index).entries);
-  serves = serves;
-  counted = context_still old.context new.context known;
-  same = same;
-  asked = asked;
-  more = more;
-  log = log;
-  outcomes = outcomes;
-  asks = asks;
-}, refl)
+does_seen {held} count did heap goes old new steps external sound made acts entries serves same known asked more log outcomes asks = (
+  record {
+    trace = HeapSeen heap.plain.index heap.history ∷ [];
+    steps = steps;
+    leads = (heap.history, refl, ap goes (sym (external_is heap external sound)));
+    made = made;
+    acts = acts;
+    entries = λ index. entries index ∙ sym (append-nil (old.parts index).entries);
+    serves = serves;
+    counted = context_still old.context new.context known;
+    same = same;
+    asked = asked;
+    more = more;
+    log = log;
+    outcomes = outcomes;
+    asks = asks;
+  },
+  refl,
+)
 
 -- so it is with a heap that is the same but for the room of its history
 pub sees_spared : (before behind : HeapView) → SameButSpare before behind → (index me : ℕ) (old new : ParticipantView) (from to : HallState)
     (goes : PlainHeap → Doing) → SeesHeap index me old new before from to goes → SeesHeap index me old new behind from to goes
 sees_spared before behind same index me old new from to goes sees =
     let both : (does : Does (index ∷ []) from.count (λ steps. Did me steps from to) (seeing_heap index goes) (goes behind.plain) (moment me old from)
-      (moment_with behind me new to)) × ((history : List Entry) × (does.trace ≡ HeapSeen index history ∷ [])) =
+    (moment_with behind me new to)) × ((history : List Entry) × (does.trace ≡ HeapSeen index history ∷ [])) =
     subst (λ (plain : PlainHeap). (does : Does (index ∷ []) from.count (λ steps. Did me steps from to) (seeing_heap index goes) (goes plain)
-      (moment me old from) (moment_with (record behind { plain = plain }) me new to))
-      × ((history : List Entry) × (does.trace ≡ HeapSeen index history ∷ []))) (sym same.plain)
+    (moment me old from) (moment_with (record behind { plain = plain }) me new to))
+    × ((history : List Entry) × (does.trace ≡ HeapSeen index history ∷ []))) (sym same.plain)
     (subst (λ (left : List Entry). (does : Does (index ∷ []) from.count (λ steps. Did me steps from to) (seeing_heap index goes) (goes before.plain)
-      (moment me old from) (moment_with (record behind { plain = before.plain; history = left }) me new to))
-      × ((history : List Entry) × (does.trace ≡ HeapSeen index history ∷ []))) (sym same.history) (sees.does, (sees.history, sees.alone))) in
+    (moment me old from) (moment_with (record behind { plain = before.plain; history = left }) me new to))
+    × ((history : List Entry) × (does.trace ≡ HeapSeen index history ∷ []))) (sym same.history) (sees.does, (sees.history, sees.alone))) in
     record { does = both.0; history = both.1.0; alone = both.1.1 }
 
 -- who has taken a heap may serve

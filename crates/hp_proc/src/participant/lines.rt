@@ -190,11 +190,7 @@ impl<'p, M: Mapper, F: Decide + Copy + Drop> Participant<'p, M, F> {
     }
 
     // A line that neither comes nor goes nor awaits: who is not attached is answered so.
-    fn do_inside<H: Waiting>(
-        &mut self,
-        hall: &mut H,
-        line: &Line<'_>,
-    ) -> Result<Answer, AllocError>
+    fn do_inside<H: Waiting>(&mut self, hall: &mut H, line: &Line<'_>) -> Result<Answer, AllocError>
         requires own { line.now.participant ≡ self.old.party.me }
         requires next { IsNextLine self.old.context line.now }
         requires inside { IsInside line.now.act }

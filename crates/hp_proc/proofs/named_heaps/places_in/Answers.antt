@@ -12,16 +12,16 @@ loop-index-preserved c =
     let n = c.loop-index.index in
     elim c.match-at.branch [
       | in-Some+in_ok-push w ↦
-        let socket = w.in-Some.socket in
-        ap (λ places. places.items) w.places-is
-        ∙ (w.in_ok-push.ensures.items
-        ∙ (ap (λ (before : List SearchedHeap). before ++ record { index = n; serves = w.served_by.result } ∷ []) c.loop-index.invariant
-        ∙ (ap (λ (serves : Option ℕ). places_below plain n ++ record { index = n; serves = serves } ∷ []) w.served_by.ensures
-        ∙ sym (places_more plain n (Some (record { name = w.in-Some._name.now; socket = socket })) (ap option_flatten w.in-Some.ensures.named)))))
+          let socket = w.in-Some.socket in
+          ap (λ places. places.items) w.places-is
+          ∙ (w.in_ok-push.ensures.items
+          ∙ (ap (λ (before : List SearchedHeap). before ++ record { index = n; serves = w.served_by.result } ∷ []) c.loop-index.invariant
+          ∙ (ap (λ (serves : Option ℕ). places_below plain n ++ record { index = n; serves = serves } ∷ []) w.served_by.ensures
+          ∙ sym (places_more plain n (Some (record { name = w.in-Some._name.now; socket = socket })) (ap option_flatten w.in-Some.ensures.named)))))
       | in_default w ↦
-        ap (λ places. places.items) w.places-is
-        ∙ (c.loop-index.invariant
-        ∙ (sym (append-nil (places_below plain n)) ∙ sym (places_more plain n None w.in_default.ensures.none)))
+          ap (λ places. places.items) w.places-is
+          ∙ (c.loop-index.invariant
+          ∙ (sym (append-nil (places_below plain n)) ∙ sym (places_more plain n None w.in_default.ensures.none)))
     ]
 
 pub returns : goal.returns

@@ -165,7 +165,7 @@ returns-in_err-grow-clause-halts g c =
     let request = c.args.request.now in
     let socket = c.in-Some-serves.socket in
     let halts : (its : NamedHeap) (heaps : List NamedHeap) → place_named its ≡ place
-      → HaltsHeld doer.party.me doer grown heap more a b (trying doer.context.pools request c.args.tag (its ∷ heaps)) =
+    → HaltsHeld doer.party.me doer grown heap more a b (trying doer.context.pools request c.args.tag (its ∷ heaps)) =
     λ its heaps named.
     halted doer mid a heap next its request c.with_flags-first.result c.args.tag c.allocate_in.result
     (asked_is its place request c.with_flags-first.result c.first_flags.result named c.first_flags.ensures c.with_flags-first.ensures) c.allocate_in.ensures.step

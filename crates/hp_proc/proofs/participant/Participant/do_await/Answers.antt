@@ -98,10 +98,12 @@ stops_so doer after old new line steps made stopped entries same known =
     let request = has_request line.act in
     let facts = facts_for doer.party.socket doer.context line.act request.0 in
     line_halted old.count (λ (steps : List MailStep). Did me steps old new) line (moment me doer old) (moment me after new) facts
-    (facts_known doer.party.socket doer.context line request.0 request.1) (doing_of line line.act facts) refl refl
-    ([], once_none,
-    halts_by [] old.count (λ (steps : List MailStep). Did me steps old new) (doing_of line line.act facts) (moment me doer old) (moment me after new)
-    steps made stopped entries same known)
+    (facts_known doer.party.socket doer.context line request.0 request.1) (doing_of line line.act facts) refl refl (
+      [],
+      once_none,
+      halts_by [] old.count (λ (steps : List MailStep). Did me steps old new) (doing_of line line.act facts) (moment me doer old) (moment me after new)
+          steps made stopped entries same known,
+    )
 
 pub returns-then-stopped : goal.returns-then-stopped
 returns-then-stopped g c =

@@ -54,7 +54,9 @@ pub give_names-requires : goal.give_names-requires
 give_names-requires g c =
     let between = g.H.Hall.state c.do_named-given.new.hall in
     let is = c.do_named-given.ensures in
-    let same = named_same c.do_named-given.result is.does is.halts in
+    let same =
+    named_same c.take_names.new.self.party.me c.take_names.new.self c.do_named-given.new.self c.in_ok-names.names c.do_named-given.new.names
+    (g.H.Hall.state c.take_names.new.hall) (g.H.Hall.state c.do_named-given.new.hall) _ c.do_named-given.result is.does is.halts in
     record {
       may = may_give
           (subst (λ (who : ℕ). IsReadyNamed who c.do_named-given.new.self c.do_named-given.new.names between) (sym same.me) is.ready);
@@ -72,7 +74,9 @@ returns g c =
     let to = g.H.Hall.state c.give_names.new.hall in
     let is = c.do_named-given.ensures in
     let back = c.give_names.ensures.gave in
-    let same = named_same c.do_named-given.result is.does is.halts in
+    let same =
+    named_same c.take_names.new.self.party.me c.take_names.new.self c.do_named-given.new.self c.in_ok-names.names c.do_named-given.new.names
+    (g.H.Hall.state c.take_names.new.hall) (g.H.Hall.state c.do_named-given.new.hall) _ c.do_named-given.result is.does is.halts in
     let mine : new.party.me ≡ me = same.me ∙ held.same.me in
     let gave : HasGiven me NAMES_SLOT (Names given) between to =
     subst (λ (who : ℕ). HasGiven who NAMES_SLOT (Names given) between to) mine back.given in

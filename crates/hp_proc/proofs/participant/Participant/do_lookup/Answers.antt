@@ -1,5 +1,5 @@
 -- A memzone is looked up among the names, which go back as they were.
-use Rattle.std.proofs.Common.{rules, ◌≡◌, ◌∙◌, List, ℕ, ap, sym, subst, arith}
+use Rattle.std.proofs.Common.{rules, ◌∙◌, List, ℕ, ap, sym, subst, arith}
 use Rattle.std.specs.List.{find}
 use Rattle.hp_hall.specs.Giving.{IsGiveOf}
 use Rattle.hp_hall.specs.HallCalls.{HasGiven}

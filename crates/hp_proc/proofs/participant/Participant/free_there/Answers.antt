@@ -133,7 +133,7 @@ returns-in_err-heap-clause-halts g c =
     let doer = c.args.self.now in
     let names = c.args.names.now in
     let halts : HaltsNamed (zone.heap ∷ []) doer.party.me doer c.hold.new.self names names (g.H.Hall.state c.args.hall.now)
-      (g.H.Hall.state c.hold.new.hall) (freeing_zone (searched_heap_at doer.context.pools) (Some zone)) =
+    (g.H.Hall.state c.hold.new.hall) (freeing_zone (searched_heap_at doer.context.pools) (Some zone)) =
     named_quiet names c.in_err-heap.ensures.halts (freeing_zone (searched_heap_at doer.context.pools) (Some zone)) in
     on_err_any _ _ halts
 

@@ -72,7 +72,7 @@ start_ready doer start {a} same ready = subst (λ (doer : ParticipantView). IsRe
 
 -- the heaps are chosen by one that is ready
 pub heaps_to_try-requires : goal.heaps_to_try-requires
-heaps_to_try-requires g c = record { ready = start_ready c.args.self.now c.reserve_element.new.self c.reserve_element.ensures c.requires.ready; }
+heaps_to_try-requires g c = record { ready = start_ready c.args.self.now c.reserve_element.new.self c.reserve_element.ensures c.requires.ready }
 
 pub serve_request-requires-clause-places : goal.serve_request-requires-clause-places
 serve_request-requires-clause-places g c = λ place among.

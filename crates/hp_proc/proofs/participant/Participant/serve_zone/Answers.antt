@@ -1,26 +1,29 @@
 -- A reservation is served with the names in hand, and what it brings is put among the memzones.
-use Rattle.std.proofs.Common.{rules, ◌≡◌, ◌∙◌, ℕ, List, map, Some, None, Result, inr, refl, ap, sym, subst}
-use Rattle.std.specs.List.{Contains}
+use Rattle.std.proofs.Common.{◌≡◌, ◌∙◌, ℕ, List, map, Option, Some, inr, refl, ap, sym, subst}
 use Rattle.std.specs.Option.{option_map}
 use Rattle.hp_base.specs.declared.limits.TheConstants.{MAX_HEAPS}
 use Rattle.hp_base.specs.declared.tag.Tag.{Tag}
 use Rattle.hp_hall.specs.HallState.{IsBusy}
 use Rattle.hp_script.specs.Part.{Part}
+use Rattle.hp_script.specs.declared.answer.Answer.{Answer}
 use Rattle.hp_serve.proofs.AskingFacts.AskedAlong.{on_err_any}
 use Rattle.hp_serve.specs.Clocks.{longest_growth}
 use Rattle.hp_zone.specs.Zones.{ZonesView}
 use Rattle.hp_proc.specs.Allocating.{serving}
+use Rattle.hp_zone.specs.declared.names.Names.{Names as NamesView}
+use Rattle.hp_proc.specs.Contexts.{AreFactsOf}
 use Rattle.hp_proc.specs.Courses.{maker_for}
 use Rattle.hp_proc.specs.Doing.{Doing}
 use Rattle.hp_proc.specs.Handing.{shared_of}
-use Rattle.hp_proc.specs.Heaps.{NamedHeap, heaps_for}
+use Rattle.hp_proc.specs.Heaps.{heaps_for}
 use Rattle.hp_proc.specs.LineInHall.{HaltsHere, did_in, moment}
-use Rattle.hp_proc.specs.NamesInHand.{DoesNamedOnce, HasCalledNamed, HaltsNamedOnce, IsReadyNamed}
+use Rattle.hp_proc.specs.Lines.{Facts}
+use Rattle.hp_proc.specs.NamesInHand.{DoesNamedOnce, HasCalledNamed, HaltsNamedOnce}
 use Rattle.hp_proc.specs.PlaceLists.{place_named}
-use Rattle.hp_proc.specs.Progress.{AreOnce, Brings}
+use Rattle.hp_proc.specs.Progress.{Brings}
 use Rattle.hp_proc.specs.SharedNames.{heaps_in}
 use Rattle.hp_proc.specs.ZoneLines.{zone_tag}
-use Rattle.hp_proc.specs.ZonesInHand.{AgreeOnceAnswered, MayPut, PutsZone, last_answer_of, last_heap_of}
+use Rattle.hp_proc.specs.ZonesInHand.{AgreeOnceAnswered, MayPut, PutsZone, last_answer_of, last_heap_of, reserving_by}
 use Rattle.hp_proc.specs.declared.searched_heap.SearchedHeap.{SearchedHeap}
 use Rattle.hp_proc.proofs.HandFacts.OnceHeld.{zone_places_once}
 use Rattle.hp_proc.proofs.NamesRead.{as_leaves}
@@ -138,8 +141,9 @@ returns-clause-ready g c =
     let brings = c.in_ok-answer.ensures.does heaps are in
     named_put names ready c.serve_request.ensures.ready (λ heap. (_, brings.does.entries heap)) tag (Some answer) heap
     (subst (λ (tag : Tag). AgreeOnceAnswered tag (Some answer) heap (hall.part me) (to.part me)) c.zone_tag-tag.ensures
-    (subst (λ (result : Result (Answer × ℕ) AllocError). AgreeOnceAnswered c.zone_tag-tag.result (last_answer_of result) (last_heap_of result) (hall.part me)
-    (to.part me)) c.in_ok-answer.is c.serve_request.ensures.agrees)) refl answer refl c.args.kept request.size now
+    (subst (λ (last : ℕ). AgreeOnceAnswered c.zone_tag-tag.result (Some answer) last (hall.part me) (to.part me)) (ap last_heap_of c.in_ok-answer.was)
+    (subst (λ (given : Option Answer). AgreeOnceAnswered c.zone_tag-tag.result given (last_heap_of c.serve_request.result) (hall.part me) (to.part me))
+    (ap last_answer_of c.in_ok-answer.was) c.serve_request.ensures.agrees))) refl answer refl c.args.kept request.size now
     (subst (λ (zones : ZonesView). PutsZone (record { zones = zones; heaps = names.heaps }) now c.args.kept request.size heap answer)
     c.in_ok-reserve.ensures.ok c.put_zone.ensures) c.are_sound.ensures
 
@@ -178,15 +182,19 @@ returns-in_err-answer-clause-halts g c =
     let judged = (reservations_agree names.zones.zones name.text asks.len options).accepted asks.acceptable in
     let same_log = ap (λ (zones : ZonesView). zones.log) c.in_ok-reserve.ensures.ok in
     let are : map place_named heaps ≡ c.as_slice.result.now = sym (c.as_slice.ensures.value ∙ c.in_ok-places.ensures) in
-    on_err_any c.from_residual-in_err-answer.result _ (λ facts known.
-    subst (λ (doing : Doing). HaltsNamedOnce me doer after names (record { zones = c.reserve.new.self; heaps = names.heaps }) hall to doing)
+    let now : NamesView = record { zones = c.reserve.new.self; heaps = names.heaps } in
+    let stops : (facts : Facts) → AreFactsOf doer.party.socket doer.context line facts
+    → HaltsNamedOnce me doer after names now hall to (reserving_by line.act line facts (shared_of names)) =
+    λ facts known.
+    subst (λ (doing : Doing). HaltsNamedOnce me doer after names now hall to doing)
     (served_tree line name asks.len options asks.its_act doer.party.socket doer.context names these facts known request asks.accepted asks.is judged)
     (zone_halts me 0 request.size doer after names c.reserve.new.self hall to serves (only_serving request tag doer.context.pools heaps) name.text
     asks.len asks.is.size_is c.args.kept c.requires.kept same_log (map (λ (place : SearchedHeap). place.index) c.as_slice.result.now)
     (zone_places_once names.heaps.plain doer.party.socket (option_map (λ (name : Part). name.text) options.heap) options.socket
     c.as_slice.result.now (c.as_slice.ensures.value ∙ c.in_ok-places.ensures))
     (subst (λ (tag : Tag). HaltsHere (map (λ (place : SearchedHeap). place.index) c.as_slice.result.now) me doer after hall to
-    (serving doer.context.pools request tag heaps)) c.zone_tag-tag.ensures (c.in_err-answer.ensures.halts heaps are))))
+    (serving doer.context.pools request tag heaps)) c.zone_tag-tag.ensures (c.in_err-answer.ensures.halts heaps are))) in
+    on_err_any _ _ stops
 
 pub returns-in_err-answer-clause-ready : goal.returns-in_err-answer-clause-ready
 returns-in_err-answer-clause-ready g c =
@@ -203,7 +211,7 @@ returns-in_err-answer-clause-ready g c =
     subst (λ (zones : ZonesView). HasCalledNamed me doer after (record { zones = zones; heaps = names.heaps }) to) (sym c.in_ok-reserve.ensures.ok)
     (named_none names c.requires.ready c.serve_request.ensures.ready (λ heap. (_, halts.entries heap)) c.zone_tag-tag.result
     (last_answer_of c.serve_request.result) (last_heap_of c.serve_request.result) c.serve_request.ensures.agrees
-    (inr (no_address (last_answer_of c.serve_request.result) (ap last_answer_of c.in_err-answer.is))))
+    (inr (no_address (last_answer_of c.serve_request.result) (ap last_answer_of c.in_err-answer.was))))
 
 pub returns-in_err-answer-clause-clock : goal.returns-in_err-answer-clause-clock
 returns-in_err-answer-clause-clock g c =
@@ -219,9 +227,15 @@ pub returns-in_err-places-clause-halts : goal.returns-in_err-places-clause-halts
 returns-in_err-places-clause-halts g c =
     let doer = c.args.self.now in
     let names = c.args.names.now in
-    on_err_any _ _ (λ facts known.
-    halts_named doer.party.me doer names (record { zones = c.reserve.new.self; heaps = names.heaps }) (g.H.Hall.state c.args.hall.now) _
-    (ap (λ (zones : ZonesView). shared_of (record { zones = zones; heaps = names.heaps })) c.in_ok-reserve.ensures.ok))
+    let line = c.args.line.now in
+    let hall = g.H.Hall.state c.args.hall.now in
+    let now : NamesView = record { zones = c.reserve.new.self; heaps = names.heaps } in
+    let stops : (facts : Facts) → AreFactsOf doer.party.socket doer.context line facts
+    → HaltsNamedOnce doer.party.me doer doer names now hall hall (reserving_by line.act line facts (shared_of names)) =
+    λ facts known.
+    halts_named doer.party.me doer names now hall (reserving_by line.act line facts (shared_of names))
+    (ap (λ (zones : ZonesView). shared_of (record { zones = zones; heaps = names.heaps })) c.in_ok-reserve.ensures.ok) in
+    on_err_any _ _ stops
 
 pub returns-in_err-places-clause-ready : goal.returns-in_err-places-clause-ready
 returns-in_err-places-clause-ready g c =
@@ -234,9 +248,15 @@ pub returns-in_err-reserve-clause-halts : goal.returns-in_err-reserve-clause-hal
 returns-in_err-reserve-clause-halts g c =
     let doer = c.args.self.now in
     let names = c.args.names.now in
-    on_err_any _ _ (λ facts known.
-    halts_named doer.party.me doer names (record { zones = c.reserve.new.self; heaps = names.heaps }) (g.H.Hall.state c.args.hall.now) _
-    (ap (λ (zones : ZonesView). shared_of (record { zones = zones; heaps = names.heaps })) c.in_err-reserve.ensures.err))
+    let line = c.args.line.now in
+    let hall = g.H.Hall.state c.args.hall.now in
+    let now : NamesView = record { zones = c.reserve.new.self; heaps = names.heaps } in
+    let stops : (facts : Facts) → AreFactsOf doer.party.socket doer.context line facts
+    → HaltsNamedOnce doer.party.me doer doer names now hall hall (reserving_by line.act line facts (shared_of names)) =
+    λ facts known.
+    halts_named doer.party.me doer names now hall (reserving_by line.act line facts (shared_of names))
+    (ap (λ (zones : ZonesView). shared_of (record { zones = zones; heaps = names.heaps })) c.in_err-reserve.ensures.err) in
+    on_err_any _ _ stops
 
 pub returns-in_err-reserve-clause-ready : goal.returns-in_err-reserve-clause-ready
 returns-in_err-reserve-clause-ready g c =

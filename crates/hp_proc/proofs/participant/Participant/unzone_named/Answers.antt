@@ -48,7 +48,7 @@ returns-clause-does g c =
     let zone = c.in-Some.found.now in
     let text = c.args.name.now.text in
     let did : DoesNamed (zone.heap ∷ []) me doer after names given a b (freeing_zone (searched_heap_at doer.context.pools) (Some zone))
-      (left_of zone.heap c.in_ok-left.left) = c.in_ok-left.ensures.does in
+    (left_of zone.heap c.in_ok-left.left) = c.in_ok-left.ensures.does in
     subst (λ (found : Option Zone). DoesNamedOnce me doer after names given a b (freeing_zone (searched_heap_at doer.context.pools) found)
     (left_of zone.heap c.in_ok-left.left))
     (sym (zone_is text c.requires.ready zone (subst (λ (text : List ℕ). IsFound names.zones.zones text zone) c.as_bytes.ensures.text
@@ -84,7 +84,7 @@ returns-in_err-left-clause-halts g c =
     let did : HaltsNamed (zone.heap ∷ []) me doer after names given a b (freeing_zone (searched_heap_at doer.context.pools) (Some zone)) =
     c.in_err-left.ensures.halts in
     let halts : HaltsNamedOnce me doer after names given a b
-      (freeing_zone (searched_heap_at doer.context.pools) (zone_named c.args.name.now.text (shared_of names))) =
+    (freeing_zone (searched_heap_at doer.context.pools) (zone_named c.args.name.now.text (shared_of names))) =
     subst (λ (found : Option Zone). HaltsNamedOnce me doer after names given a b (freeing_zone (searched_heap_at doer.context.pools) found))
     (sym (zone_is c.args.name.now.text c.requires.ready zone
     (subst (λ (text : List ℕ). IsFound names.zones.zones text zone) c.as_bytes.ensures.text c.in-Some.ensures.found)))
