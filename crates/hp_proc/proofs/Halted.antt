@@ -163,6 +163,17 @@ module _ (count : ℕ) (here_did there_did did : List MailStep → Type 0) (old 
     same = same_then old.party mid.party new.party here.same there.same;
   }
 
+  -- and in both cases its trace is that of the one and then of the other
+  pub then_halts_trace : {held : List ℕ} (heaps : List ℕ) (doing left : Doing) (here : Does held count here_did doing left old mid)
+      (there : Halts heaps count there_did left mid new) → (then_halts {held = held} heaps doing left here there).trace ≡ here.trace ++ there.trace
+  unfolding then_halts
+  then_halts_trace heaps doing left here there = refl
+
+  pub halts_then_trace : (heaps : List ℕ) (doing : Doing) (here : Halts heaps count here_did doing old mid) (rest : Doing)
+      (there : Does [] count there_did here.rest rest mid new) → (halts_then heaps doing here rest there).trace ≡ here.trace ++ there.trace
+  unfolding halts_then
+  halts_then_trace heaps doing here rest there = refl
+
 -- in a hall: what stopped joins with what was done before it, and what was done after with what stopped
 module _ (heaps : List ℕ) (first second third : HallState) (now who : ℕ) (mid behind : Moment → Moment) (doer after : ParticipantView) (old : Moment)
     (doing : Doing) (same : now ≡ who) (many : second.count ≡ first.count) where

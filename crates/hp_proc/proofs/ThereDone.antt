@@ -17,7 +17,7 @@ use Rattle.hp_hall.specs.declared.slot.TheConstants.{NAMES_SLOT}
 use Rattle.hp_heap.specs.History.{HeapView, entries_of}
 use Rattle.hp_heap.specs.PlainHeap.{PlainHeap}
 use Rattle.hp_heap.specs.declared.entry.Entry.{Entry}
-use Rattle.hp_proc.proofs.Halted.{halts_then, then_halts}
+use Rattle.hp_proc.proofs.Halted.{halts_then, halts_then_trace, then_halts, then_halts_trace}
 use Rattle.hp_proc.proofs.HandFacts.HandMarks.{holds_marked}
 use Rattle.hp_proc.proofs.HandFacts.HandNamed.{known_here, names_entries}
 use Rattle.hp_proc.proofs.HandFacts.OnceHeld.{once_none, once_one}
@@ -292,13 +292,21 @@ module _ (index : ℕ) (old mid new : ParticipantView) (names given : NamesView)
       let first = then_halts from.count (did_in me from at) (did_in me at between) (did_in me from between) (moment me old from)
       (moment_with heap me mid at) (moment_with next me new between) (λ one two. did_then) [] tree held took.does mid_is.halts in
       let last = put_does first.rest in
+      let whole = halts_then from.count (did_in me from between) (did_in me between to) (did_in me from to) (moment me old from)
+      (moment_with next me new between) (moment me new to) (λ one two. did_then) (index ∷ []) tree first first.rest last in
+      let trace_is : whole.trace ≡ (took.does.trace ++ mid_is.halts.trace) ++ last.trace =
+      halts_then_trace from.count (did_in me from between) (did_in me between to) (did_in me from to) (moment me old from)
+      (moment_with next me new between) (moment me new to) (λ one two. did_then) (index ∷ []) tree first first.rest last
+      ∙ ap (λ (front : List Done). front ++ last.trace)
+      (then_halts_trace from.count (did_in me from at) (did_in me at between) (did_in me from between) (moment me old from)
+      (moment_with heap me mid at) (moment_with next me new between) (λ one two. did_then) [] tree held took.does mid_is.halts) in
       record {
-        halts = halts_then from.count (did_in me from between) (did_in me between to) (did_in me from to) (moment me old from)
-            (moment_with next me new between) (moment me new to) (λ one two. did_then) (index ∷ []) tree first first.rest last;
-        names = subst (λ (last : List Done). ChangesNames names given ((took.does.trace ++ mid_is.halts.trace) ++ last))
+        halts = whole;
+        names = subst (ChangesNames names given) (sym trace_is)
+            (subst (λ (last : List Done). ChangesNames names given ((took.does.trace ++ mid_is.halts.trace) ++ last))
             (sym (still_leads first.rest last.trace last.leads))
             (subst (ChangesNames names given) (sym (append-nil (took.does.trace ++ mid_is.halts.trace)))
-            (changes_then names given took.does.trace mid_is.halts.trace took.changes mid_is.changes));
+            (changes_then names given took.does.trace mid_is.halts.trace took.changes mid_is.changes)));
       }
 
 -- THE HEAP IS GIVEN BACK
