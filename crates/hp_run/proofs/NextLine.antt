@@ -80,9 +80,9 @@ after_at count before (first ∷ lines) (suc index) line after within is =
 may_await : (count : ℕ) (earlier : List Line) (deed : Act) (now : HallState) → StandsAfter count earlier deed → now.count ≡ count
     → ((other : ℕ) → other < count → now.lines other ≡ lines_by other earlier) → MayAwait 1 deed now
 may_await count earlier (act.Await other lines) now after is told = (
-    subst (λ (n : ℕ). other < n) (sym is) after.0,
-    inl (omega (arith, after.1, told other after.0)),
-  )
+  subst (λ (n : ℕ). other < n) (sym is) after.0,
+  inl (omega (arith, after.1, told other after.0)),
+)
 may_await count earlier _ now after is told = tt
 
 -- so many of the lines of courses are one's

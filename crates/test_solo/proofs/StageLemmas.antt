@@ -151,7 +151,7 @@ staged_secondary old new primary secondary after served same with_it =
       ),
       served.serving.joined 1 ∙ (with_it.1 ∙ sym (ap (λ (context : Context). context.standing.attached) same)),
       no_chunks_still old new secondary after (λ heap. ap (λ (p : HeapPart). p.marked) (served.serving.part 1 heap))
-      (ap (λ (context : Context). context.standing.chunks) same) with_it.2,
+          (ap (λ (context : Context). context.standing.chunks) same) with_it.2,
     )
 
 -- no chunk has the mark of one that notes none
@@ -215,7 +215,7 @@ staged_attached old new primary secondary after course changes noted with_it =
         course.count ∙ is.0,
         changes.slots.home MAX_HEAPS is.1,
         tied_on old new 0 primary course (changes.others.own 0 apart) (changes.others.joined 0 apart)
-        (λ heap. changes.others.part 0 heap apart) is.2,
+            (λ heap. changes.others.part 0 heap apart) is.2,
         record {
           number = changes.same.me ∙ number;
           tied = subst (λ (n : ℕ). IsTiedFor new n after.party) number changes.tied;

@@ -77,10 +77,10 @@ seen_at index (done ∷ trace) state has = by_seen (λ has. seen_at index trace 
         elim (Contains-cases history state (filter_map (state_seen index) trace)
         (subst (λ (seen : Option (List Entry)). Contains (cons_option seen (filter_map (state_seen index) trace)) state) some has)) [
           | inl is ↦ (
-              [],
-              trace,
-              ap (λ (one : Done). one ∷ trace) (state_is index done history some ∙ ap (λ (l : List Entry). HeapSeen index l) is),
-            )
+            [],
+            trace,
+            ap (λ (one : Done). one ∷ trace) (state_is index done history some ∙ ap (λ (l : List Entry). HeapSeen index l) is),
+          )
           | inr later ↦ among_more (HeapSeen index state) done trace (further later)
         ]
 

@@ -105,14 +105,14 @@ module _ (opening : Opening) (who : ℕ) (mine : Mine) (steps : List MailStep) (
         | inl among ↦ at (mark_at (newcomer opening who) [] steps mark among)
         | inr first ↦ elim (Contains-cases none_done mark [] first) [
           | inl is ↦ subst (HasTold who courses mine) is (record {
-              early = [];
-              late = courses;
-              are = refl;
-              many = refl;
-              made = λ heap. refl;
-              zones = refl;
-              names = refl;
-            })
+            early = [];
+            late = courses;
+            are = refl;
+            many = refl;
+            made = λ heap. refl;
+            zones = refl;
+            names = refl;
+          })
           | inr none ↦ absurd (Contains-none mark none)
         ]
       ]
@@ -152,16 +152,14 @@ module _ (opening : Opening) (who : ℕ) (mine : Mine) (steps : List MailStep) (
     enough = enough;
     made = λ heap. heap_made before (Notes (LoadedDone other found) ∷ after) is heap ∙ made heap;
     states = λ heap history first rest comes.
-        let its = taken_state heap history after (taken.states heap history first rest comes) in
-        (
+        let its = taken_state heap history after (taken.states heap history first rest comes) in (
           its.0,
           its.1,
           its.2,
           subst (λ (moves : List Move). Contains moves (Took heap (Heap its.0 its.1))) (sym (moves_since before after other found is)) its.3,
         );
     names = λ shown first rest comes.
-        let its = taken.names shown first rest comes in
-        (
+        let its = taken.names shown first rest comes in (
           its.0,
           its.1,
           subst (λ (moves : List Move). Contains moves (Took NAMES_SLOT (Names its.0))) (sym (moves_since before after other found is))

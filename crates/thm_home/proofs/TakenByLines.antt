@@ -122,13 +122,12 @@ names_of_line : (trace : List Done) (steps : List MailStep) → NamesOfLine trac
 names_of_line trace steps (NamesOfLine.none aside unread unchanged) shown first rest is = absurd (unread_among shown trace first rest unread is)
 names_of_line trace steps (NamesOfLine.once taken given left both reads unread leaves) shown [] rest is =
     let same : NamesRead (shared_of taken) ∷ left ≡ NamesRead shown ∷ rest = sym reads ∙ is in
-    let names : shared_of taken ≡ shown = cc in
-    (
+    let names : shared_of taken ≡ shown = cc in (
       taken,
       names,
       among_steps steps (Takes NAMES_SLOT (Names taken))
-      (subst (λ (l : List MailStep). Contains l (Takes NAMES_SLOT (Names taken))) (sym both)
-      (Contains-here (Takes NAMES_SLOT (Names taken)) (Gives NAMES_SLOT (Names given) ∷ []))),
+          (subst (λ (l : List MailStep). Contains l (Takes NAMES_SLOT (Names taken))) (sym both)
+          (Contains-here (Takes NAMES_SLOT (Names taken)) (Gives NAMES_SLOT (Names given) ∷ []))),
     )
 names_of_line trace steps (NamesOfLine.once taken given left both reads unread leaves) shown (done ∷ first) rest is =
     absurd (unread_among shown left first rest unread (ap tail_of (sym reads ∙ is)))

@@ -160,8 +160,8 @@ end_of_threads workload firsts answers heaps segs names tables watchers given de
       left = names_left_of_threads workload firsts answers heaps segs names tables watchers given declared leave;
       changed = names_changed_of_threads workload firsts answers heaps segs names tables watchers given declared leave;
       handed = λ who. record {
-          shown = names_handed_of_threads workload firsts answers heaps segs names tables watchers given declared leave who;
-          states = states_of_threads workload firsts answers heaps segs names tables watchers given declared leave who;
+        shown = names_handed_of_threads workload firsts answers heaps segs names tables watchers given declared leave who;
+        states = states_of_threads workload firsts answers heaps segs names tables watchers given declared leave who;
       };
       awaited_for = awaited_of_threads workload firsts answers heaps segs names tables watchers given declared leave;
     })

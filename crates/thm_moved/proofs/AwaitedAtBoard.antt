@@ -48,8 +48,7 @@ calls_front (suc lines) zero courses few = absurd (omega (arith, few))
 calls_front (suc lines) (suc most) [] few = ([], refl)
 calls_front (suc lines) (suc most) (course ∷ courses) few =
     let rest = calls_front lines most courses (omega (arith, few)) in
-    let early = trace_of (take lines courses) in
-    (
+    let early = trace_of (take lines courses) in (
       rest.0,
       calls_on course.trace (trace_of (take most courses))
           ∙ (ap (λ (calls : List OwnCall). calls_in course.trace ++ calls) rest.1

@@ -223,8 +223,7 @@ pub names_held_from_free : (moves : List (ℕ × Move)) (first : ℕ → Kept) (
     → (holds : List (Hold NamesView)) × Chain opened holds last × ((who : ℕ) → holds_of who holds ≡ names_by who None (values_of who moves))
     × AllByRecursion GoesOn holds
 names_held_from_free moves first end opened last its left replay =
-    let held = names_held_on end last left moves (all_free first) opened its replay in
-    (
+    let held = names_held_on end last left moves (all_free first) opened its replay in (
       held.holds,
       held.chain,
       λ who.

@@ -81,7 +81,10 @@ at_least_one : (heap : ℕ) (heaps : List ℕ) → Contains heaps heap → 1 ≤
 at_least_one heap [] among = absurd (Contains-none heap among)
 at_least_one heap (one ∷ heaps) among = elim (Contains-cases one heap heaps among) [
   | inl same ↦ omega (
-        arith, count_by-cons (is_it heap) one heaps, ap (λ (b : Bool). cond {A = ℕ} b 1 0) (eq-eqb one heap same))
+    arith,
+    count_by-cons (is_it heap) one heaps,
+    ap (λ (b : Bool). cond {A = ℕ} b 1 0) (eq-eqb one heap same),
+  )
   | inr later ↦ omega (arith, count_by-cons (is_it heap) one heaps, at_least_one heap heaps later)
 ]
 
@@ -152,7 +155,7 @@ module _ (count index : ℕ) where
       absurd (all_of IsUnseen (RangePlanned addr len page (range_plan addr len page taken) ∷ []) (HeapSeen index history) among (tt, tt))
   seen_held (Acts.claims doer heap chunk taken plan) history among =
       absurd (all_of IsUnseen (RangePlanned chunk.addr chunk.len chunk.page (Ok chunk.list) ∷ NamesChanged (OfHeaps (Range heap chunk.addr chunk.len chunk.page))
-          ∷ Called heap (heap_call.Chunk chunk) gives.Done ∷ []) (HeapSeen index history) among (tt, (tt, (tt, tt))))
+      ∷ Called heap (heap_call.Chunk chunk) gives.Done ∷ []) (HeapSeen index history) among (tt, (tt, (tt, tt))))
   seen_held (Acts.releases doer heap chunk taken) history among =
       absurd (all_of IsUnseen (NamesChanged (OfHeaps (RangeGone heap chunk.addr)) ∷ Called heap (heap_call.Unchunk chunk.addr chunk.len) gives.Done ∷ []) (HeapSeen index history) among (tt, (tt, tt)))
   seen_held (Acts.maps_chunk doer heap chunk after ended did) history among =
@@ -304,9 +307,11 @@ module _ (count index : ℕ) where
           by_place (IsEither.in_second mid first_is is) =
               let among : Contains ys (HeapSeen index history) =
               subst (λ (ys : List Done). Contains ys (HeapSeen index history)) (sym is) (among_at mid (HeapSeen index history) rest) in
-              let its = late history among mid rest history is in
-              (its.0, λ own there. by_call own (Contains-append_cases (calls_in xs) (calls_in mid) own
-              (subst (λ (calls : List OwnCall). Contains calls own) (ap calls_in first_is ∙ calls_on xs mid) there)) among its.1)
+              let its = late history among mid rest history is in (
+                its.0,
+                λ own there. by_call own (Contains-append_cases (calls_in xs) (calls_in mid) own
+                    (subst (λ (calls : List OwnCall). Contains calls own) (ap calls_in first_is ∙ calls_on xs mid) there)) among its.1,
+              )
             where
               by_call : (own : OwnCall) → Contains (calls_in xs) own ⊎ Contains (calls_in mid) own → Contains ys (HeapSeen index history)
                   → ((own : OwnCall) → Contains (calls_in mid) own → IsCallOf own → ⊥) → IsCallOf own → ⊥

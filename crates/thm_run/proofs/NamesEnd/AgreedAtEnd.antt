@@ -203,53 +203,53 @@ module _ (names : NamesView) (heaps : List HeapView) (claims : List ExternalRang
         ∙ filter_swapped (λ row. not (is_of_log row)) (is_of_chunk chunk) rows
 
     module _ (index : ℕ) (heap : HeapView) (there : slice_get heaps index ≡ Some heap) (chunk : Chunk) (among : Contains heap.plain.chunks chunk)
-        where
-      -- a chunk with the mark has its rows
-      with_mark : has_bit chunk.attached who ≡ true → filter (is_of_chunk chunk) rows ≡ rows_of_chunk chunk
-      with_mark bit =
-          let contains : Contains (marked index) (unmarked chunk) =
-          subst (λ (chunks : List Chunk). Contains chunks (unmarked chunk)) (sym (marks_are who heap.plain) ∙ marks index heap there)
-          (Contains-image unmarked (filter (λ (chunk : Chunk). has_bit chunk.attached who) heap.plain.chunks) chunk
-          (Contains-kept (λ (chunk : Chunk). has_bit chunk.attached who) heap.plain.chunks chunk bit among)) in
-          rows_of_it chunk
-          ∙ All-contains (λ (c : Chunk). filter (is_of_chunk c) (chunk_rows rows) ≡ rows_of_chunk c) (marked index) (unmarked chunk)
-          (has.each index (low index heap there)) contains
+      where
+        -- a chunk with the mark has its rows
+        with_mark : has_bit chunk.attached who ≡ true → filter (is_of_chunk chunk) rows ≡ rows_of_chunk chunk
+        with_mark bit =
+            let contains : Contains (marked index) (unmarked chunk) =
+            subst (λ (chunks : List Chunk). Contains chunks (unmarked chunk)) (sym (marks_are who heap.plain) ∙ marks index heap there)
+            (Contains-image unmarked (filter (λ (chunk : Chunk). has_bit chunk.attached who) heap.plain.chunks) chunk
+            (Contains-kept (λ (chunk : Chunk). has_bit chunk.attached who) heap.plain.chunks chunk bit among)) in
+            rows_of_it chunk
+            ∙ All-contains (λ (c : Chunk). filter (is_of_chunk c) (chunk_rows rows) ≡ rows_of_chunk c) (marked index) (unmarked chunk)
+            (has.each index (low index heap there)) contains
 
-      -- and one without it has none
-      none_of_it : has_bit chunk.attached who ≡ false → (row : Row) → Contains (chunk_rows rows) row → is_of_chunk chunk row ≡ true → ⊥
-      none_of_it bit row contains its =
-          let parts = and_parts (eqb row.generation 0) (eqb row.list chunk.list) its in
-          let one = has.only row contains in
-          let other = marked_in_heap one.0 one.1 one.2 one.3 in
-          let list : one.1.list ≡ chunk.list = sym (row_list one.1 row one.4) ∙ eqb-true row.list chunk.list parts.1 in
-          let here : one.0 ≡ index =
-          one_heap names (namings_of heaps) claims agreed distinct one.0 index (unmarked other.its) (unmarked chunk) one.2 (low index heap there)
-          (named one.0 other.heap other.its other.there other.among) (named index heap chunk there among)
-          (ap (λ (c : Chunk). c.list) other.is ∙ list) in
-          let same : other.heap ≡ heap = same_Some other.heap heap (sym other.there ∙ (ap (slice_get heaps) here ∙ there)) in
-          let equal : other.its ≡ chunk =
-          one_of_list heap.plain (tiled index heap there) chunk among other.its
-          (subst (λ (h : HeapView). Contains h.plain.chunks other.its) same other.among) (ap (λ (c : Chunk). c.list) other.is ∙ list) in
-          let wrong : true ≡ false = sym other.bit ∙ (ap (λ (c : Chunk). has_bit c.attached who) equal ∙ bit) in
-          cc
+        -- and one without it has none
+        none_of_it : has_bit chunk.attached who ≡ false → (row : Row) → Contains (chunk_rows rows) row → is_of_chunk chunk row ≡ true → ⊥
+        none_of_it bit row contains its =
+            let parts = and_parts (eqb row.generation 0) (eqb row.list chunk.list) its in
+            let one = has.only row contains in
+            let other = marked_in_heap one.0 one.1 one.2 one.3 in
+            let list : one.1.list ≡ chunk.list = sym (row_list one.1 row one.4) ∙ eqb-true row.list chunk.list parts.1 in
+            let here : one.0 ≡ index =
+            one_heap names (namings_of heaps) claims agreed distinct one.0 index (unmarked other.its) (unmarked chunk) one.2 (low index heap there)
+            (named one.0 other.heap other.its other.there other.among) (named index heap chunk there among)
+            (ap (λ (c : Chunk). c.list) other.is ∙ list) in
+            let same : other.heap ≡ heap = same_Some other.heap heap (sym other.there ∙ (ap (slice_get heaps) here ∙ there)) in
+            let equal : other.its ≡ chunk =
+            one_of_list heap.plain (tiled index heap there) chunk among other.its
+            (subst (λ (h : HeapView). Contains h.plain.chunks other.its) same other.among) (ap (λ (c : Chunk). c.list) other.is ∙ list) in
+            let wrong : true ≡ false = sym other.bit ∙ (ap (λ (c : Chunk). has_bit c.attached who) equal ∙ bit) in
+            cc
 
-      without_mark : has_bit chunk.attached who ≡ false → filter (is_of_chunk chunk) rows ≡ []
-      without_mark bit =
-          rows_of_it chunk
-          ∙ filter_none (is_of_chunk chunk) (chunk_rows rows)
-          (AllByRecursion-each (λ (row : Row). is_of_chunk chunk row ≡ false) (chunk_rows rows)
-          (λ row contains. by_test (is_of_chunk chunk row) (none_of_it bit row contains)))
-        where
-          by_test : (its : Bool) → (its ≡ true → ⊥) → its ≡ false
-          by_test true never = absurd (never refl)
-          by_test false never = refl
+        without_mark : has_bit chunk.attached who ≡ false → filter (is_of_chunk chunk) rows ≡ []
+        without_mark bit =
+            rows_of_it chunk
+            ∙ filter_none (is_of_chunk chunk) (chunk_rows rows)
+            (AllByRecursion-each (λ (row : Row). is_of_chunk chunk row ≡ false) (chunk_rows rows)
+            (λ row contains. by_test (is_of_chunk chunk row) (none_of_it bit row contains)))
+          where
+            by_test : (its : Bool) → (its ≡ true → ⊥) → its ≡ false
+            by_test true never = absurd (never refl)
+            by_test false never = refl
 
-      is_marked : IsMarked who rows chunk
-      is_marked = by_bit (has_bit chunk.attached who) refl
-        where
-          by_bit : (bit : Bool) → has_bit chunk.attached who ≡ bit → filter (is_of_chunk chunk) rows ≡ cond bit (rows_of_chunk chunk) []
-          by_bit true its = with_mark its
-          by_bit false its = without_mark its
+        is_marked : IsMarked who rows chunk
+        is_marked = by_bit (has_bit chunk.attached who) refl
+          where
+            by_bit : (bit : Bool) → has_bit chunk.attached who ≡ bit → filter (is_of_chunk chunk) rows ≡ cond bit (rows_of_chunk chunk) []
+            by_bit true its = with_mark its
+            by_bit false its = without_mark its
 
     pub all_marked : (index : ℕ) (heap : HeapView) → slice_get heaps index ≡ Some heap → AreMarked who rows heap.plain.chunks
     all_marked index heap there =

@@ -123,22 +123,20 @@ came_in hold = came_between hold.taken hold.given
 
 pub all_came : (first : SharedNames) (holds : List (Hold SharedNames)) (last : SharedNames) → Chain first holds last
     → AllByRecursion GivesLater holds → IsPermutation (came_between first last) (flat_map came_in holds) × AreLater first last
-all_came first [] last chain later =
-    (
-      subst (λ (names : SharedNames). IsPermutation (came_between first names) []) (sym chain)
+all_came first [] last chain later = (
+  subst (λ (names : SharedNames). IsPermutation (came_between first names) []) (sym chain)
       (subst (λ (l : List (ℕ × NamesChange)). IsPermutation l []) (sym (none_between first)) (IsPermutation-refl [])),
-      subst (AreLater first) (sym chain) (later_same first),
-    )
+  subst (AreLater first) (sym chain) (later_same first),
+)
 all_came first (hold ∷ holds) last chain later =
     let rest = all_came hold.given holds last chain.1 later.1 in
     let here : AreLater first hold.given = subst (λ (names : SharedNames). AreLater names hold.given) chain.0 later.0 in
-    let taken : came_between first hold.given ≡ came_in hold = ap (λ (names : SharedNames). came_between names hold.given) (sym chain.0) in
-    (
+    let taken : came_between first hold.given ≡ came_in hold = ap (λ (names : SharedNames). came_between names hold.given) (sym chain.0) in (
       IsPermutation-trans (came_between first last) (came_between first hold.given ++ came_between hold.given last)
-      (came_in hold ++ flat_map came_in holds) (between_on first hold.given last here rest.1)
-      (subst (λ (l : List (ℕ × NamesChange)). IsPermutation (came_between first hold.given ++ came_between hold.given last) (l ++ flat_map came_in holds))
-      taken
-      (IsPermutation-append_right (came_between first hold.given) (came_between hold.given last) (flat_map came_in holds) rest.0)),
+          (came_in hold ++ flat_map came_in holds) (between_on first hold.given last here rest.1)
+          (subst (λ (l : List (ℕ × NamesChange)). IsPermutation (came_between first hold.given ++ came_between hold.given last) (l ++ flat_map came_in holds))
+          taken
+          (IsPermutation-append_right (came_between first hold.given) (came_between hold.given last) (flat_map came_in holds) rest.0)),
       later_on first hold.given last here rest.1,
     )
 

@@ -173,9 +173,9 @@ do_told-answer-requires-clause-may g c =
     subst (λ (plain : HallView). SoFar workload was.courses was.parties plain) (sym c.away.ensures.plain) was.so_far in
     let number = ap (λ (doer : ParticipantView). doer.party.me) c.new-participant.ensures ∙ c.in-Some.ensures.tied.number in (
       subst (λ (me : ℕ). MayComeAndGo me line.act) (sym number)
-      (line_can workload c.args.place line c.requires.runnable c.requires.within c.index-line.ensures),
+          (line_can workload c.args.place line c.requires.runnable c.requires.within c.index-line.ensures),
       line_awaits workload was.courses was.parties plain so_far c.args.place line (solo_state c.away.new.self) c.requires.runnable was.lines_are
-      c.requires.within c.index-line.ensures (all_count workload was.courses was.parties plain so_far) (λ other. refl),
+          c.requires.within c.index-line.ensures (all_count workload was.courses was.parties plain so_far) (λ other. refl),
     )
 
 pub do_told-answer-requires-clause-few : goal.do_told-answer-requires-clause-few
