@@ -20,7 +20,7 @@ use Rattle.hp_log.specs.Log.{run_in}
 use Rattle.hp_segs.specs.Lists.{lists_of}
 use Rattle.hp_segs.specs.Table.{IsListRun, IsPlaced, IsStamped, IsTable}
 use Rattle.hp_maps.specs.Events.{IsToldByAddress}
-use Rattle.hp_maps.specs.MapsView.{MapsView}
+use Rattle.hp_maps.specs.MapsView.{MapsView, chunk_rows}
 use Rattle.hp_segs.proofs.NewSound.{sound_new}
 use Rattle.hp_segs.proofs.SoundSteps.{sound_armed}
 use Rattle.hp_segs.specs.LaterSteps.{after_arm, after_leave, armed_ask}
