@@ -83,11 +83,11 @@ others_growth : (asked : PagesAsked)
 others_growth asked = refl
 
 abbrev out : Standing
-out = record { attached = false; records = 3; elements = []; watchers = []; validators = [] }
+out = record { attached = false; records = 3; elements = []; chunks = []; watchers = []; validators = [] }
 
 -- a participant that attached with 4 records has taken in these; one whose attaching is refused stays as it was
 attached_with_4 : after_line (line_of 1 act.Attach) (answer.Records 4) (Looked 4 ∷ CaughtUp 4 caught.Done ∷ []) out
-    ≡ record { attached = true; records = 4; elements = []; watchers = []; validators = [] }
+    ≡ record { attached = true; records = 4; elements = []; chunks = []; watchers = []; validators = [] }
 attached_with_4 = refl
 
 not_attached : after_line (line_of 1 act.Attach) (answer.Refused 2) (Looked 4 ∷ CaughtUp 4 (caught.Refused row 2) ∷ []) out ≡ out

@@ -11,7 +11,7 @@ use Rattle.hp_zone.specs.declared.name_change.NameChange.TheVariants.{Named}
 use Rattle.hp_proc.specs.LineTrees.{doing_of}
 use Rattle.hp_proc.specs.ClaimedMemory.{claims_in, plan_in}
 use Rattle.hp_proc.specs.Doing.{Doing, Goes, Leads}
-use Rattle.hp_proc.specs.Doing.Done.{NamesRead}
+use Rattle.hp_proc.specs.Doing.Done.{NamesRead, RangePlanned}
 use Rattle.hp_proc.specs.ExternalLines.{adding}
 use Rattle.hp_proc.specs.SharedNames.{SharedNames, heaps_in, next_index}
 use Rattle.hp_proc.proofs.WorkedLines.WorkedExternal.{adds, base, ext, facts, line_of, named, page_power, part, pools}
@@ -33,7 +33,7 @@ too_many_pages : plan_in pools named base too_long (2 ^ 21) ≡ Err range.NoSpac
 unfolding plan_in claims_in
 too_many_pages = rw page_power refl
 
-no_list_for_memory : Leads (doing_of (line_of 0 (adds too_long)) (adds too_long) (facts [])) (NamesRead named ∷ [])
-    (Doing.Ended answer.NoSpace)
+no_list_for_memory : Leads (doing_of (line_of 0 (adds too_long)) (adds too_long) (facts []))
+    (NamesRead named ∷ RangePlanned base too_long (2 ^ 21) (Err range.NoSpace) ∷ []) (Doing.Ended answer.NoSpace)
 unfolding Goes Leads doing_of directory.socket_name heaps_in
-no_list_for_memory = (named, refl, ap (λ (plan : Result ℕ RangeFault). adding base too_long (2 ^ 21) 1 256 plan) (sym too_many_pages))
+no_list_for_memory = (named, refl, (Err range.NoSpace, refl, refl))

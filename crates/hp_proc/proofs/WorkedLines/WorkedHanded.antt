@@ -125,16 +125,14 @@ allocating = record { line = 4; participant = 0; act = act.Alloc (part (codes "b
 
 abbrev facts : Request → Facts
 facts request = record {
-  known = record {
-    attached = true;
-    own_socket = 0;
-    pools = record { socket = 0; page = 2 ^ 21; pages = 4; slots = 4 } ∷ [];
-    request = Some request;
-    maker = None;
-    own_heap = None;
-    watchers = [];
-    validators = [];
-  };
+  attached = true;
+  own_socket = 0;
+  pools = record { socket = 0; page = 2 ^ 21; pages = 4; slots = 4 } ∷ [];
+  request = Some request;
+  maker = None;
+  own_heap = None;
+  watchers = [];
+  validators = [];
   chunks = [];
 }
 

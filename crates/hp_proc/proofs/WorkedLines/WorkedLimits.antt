@@ -50,16 +50,14 @@ line_of number act = record { line = number; participant = 0; act = act }
 
 abbrev facts : List (Validator Bool) → Option Request → Facts
 facts validators request = record {
-  known = record {
-    attached = true;
-    own_socket = 0;
-    pools = record { socket = 0; page = 2 ^ 21; pages = 4; slots = 4 } ∷ [];
-    request = request;
-    maker = None;
-    own_heap = None;
-    watchers = [];
-    validators = validators;
-  };
+  attached = true;
+  own_socket = 0;
+  pools = record { socket = 0; page = 2 ^ 21; pages = 4; slots = 4 } ∷ [];
+  request = request;
+  maker = None;
+  own_heap = None;
+  watchers = [];
+  validators = validators;
   chunks = [];
 }
 

@@ -1,6 +1,6 @@
 -- Worked values: allocations from a heap by its name, and what an end says of names, of memzones and of what was handed.
 use Rattle.std.proofs.Common.{◌≡◌, refl, arith, ℕ, ◌+◌, ◌-◌, ◌^◌, true, false, List, [], ◌∷◌, Option, Some, None}
-use Rattle.std.specs.Prelude.{codes, ⊥}
+use Rattle.std.specs.Prelude.{codes}
 use Rattle.std.proofs.lemmas.List.Sorted.{IsPermutation-refl, length_permutation}
 use Rattle.hp_base.specs.Flags as flags
 use Rattle.hp_base.specs.Requests.{IsAccepted}
@@ -46,16 +46,14 @@ line_of number who act = record { line = number; participant = who; act = act }
 
 abbrev facts : Option Request → Facts
 facts request = record {
-  known = record {
-    attached = true;
-    own_socket = 0;
-    pools = record { socket = 0; page = 2 ^ 21; pages = 4; slots = 4 } ∷ [];
-    request = request;
-    maker = None;
-    own_heap = None;
-    watchers = [];
-    validators = [];
-  };
+  attached = true;
+  own_socket = 0;
+  pools = record { socket = 0; page = 2 ^ 21; pages = 4; slots = 4 } ∷ [];
+  request = request;
+  maker = None;
+  own_heap = None;
+  watchers = [];
+  validators = [];
   chunks = [];
 }
 

@@ -100,16 +100,14 @@ second_line = record {
 
 abbrev facts : Request → Facts
 facts request = record {
-  known = record {
-    attached = true;
-    own_socket = 0;
-    pools = record { socket = 0; page = 2 ^ 21; pages = 4; slots = 4 } ∷ [];
-    request = Some request;
-    maker = None;
-    own_heap = None;
-    watchers = [];
-    validators = cap true ∷ [];
-  };
+  attached = true;
+  own_socket = 0;
+  pools = record { socket = 0; page = 2 ^ 21; pages = 4; slots = 4 } ∷ [];
+  request = Some request;
+  maker = None;
+  own_heap = None;
+  watchers = [];
+  validators = cap true ∷ [];
   chunks = [];
 }
 

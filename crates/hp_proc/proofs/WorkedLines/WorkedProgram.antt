@@ -51,16 +51,14 @@ pool_line socket = record { socket = socket; page = 2 ^ 21; pages = 1024; slots 
 -- two sockets with 1,024 pages each, and the line that makes the memzone's name, where a line has one
 abbrev facts : Option Request → Option ℕ → Facts
 facts request line = record {
-  known = record {
-    attached = true;
-    own_socket = 0;
-    pools = pool_line 0 ∷ pool_line 1 ∷ [];
-    request = request;
-    maker = option_map made_by line;
-    own_heap = None;
-    watchers = [];
-    validators = [];
-  };
+  attached = true;
+  own_socket = 0;
+  pools = pool_line 0 ∷ pool_line 1 ∷ [];
+  request = request;
+  maker = option_map made_by line;
+  own_heap = None;
+  watchers = [];
+  validators = [];
   chunks = [];
 }
 

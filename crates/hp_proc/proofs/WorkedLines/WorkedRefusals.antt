@@ -102,16 +102,14 @@ not_attached = (filled, refl, (shared 0, refl, refl))
 -- the element of the label of line 6, by participant 0, looked for by a participant for which it lies in a heap, where it is its own
 abbrev labelled : Option SearchedHeap → Facts
 labelled own = record {
-  known = record {
-    attached = true;
-    own_socket = 0;
-    pools = pools;
-    request = None;
-    maker = Some (record { line = 6; participant = 0; zone = false });
-    own_heap = own;
-    watchers = [];
-    validators = [];
-  };
+  attached = true;
+  own_socket = 0;
+  pools = pools;
+  request = None;
+  maker = Some (record { line = 6; participant = 0; zone = false });
+  own_heap = own;
+  watchers = [];
+  validators = [];
   chunks = [];
 }
 

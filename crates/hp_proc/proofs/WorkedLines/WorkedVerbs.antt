@@ -100,7 +100,7 @@ none_freed = (no_changes, refl, refl)
 
 -- `resize`: the name is a memzone's, whose element is found and stays as it is
 abbrev of_a_zone : Facts
-of_a_zone = record (facts []) { known = record (facts []).known { maker = Some (record { line = 2; participant = 0; zone = true }) } }
+of_a_zone = record (facts []) { maker = Some (record { line = 2; participant = 0; zone = true }) }
 
 a_resize_refused : Leads (doing_of (line_of 0 (act.Resize (part ext) 100)) (act.Resize (part ext) 100) of_a_zone)
     (NamesRead no_changes ∷ Called 0 (call.Find (record { who = 0; zone = true; number = 2 })) (gives.Address (2 ^ 32 + 128)) ∷ [])
@@ -110,7 +110,7 @@ a_resize_refused = (no_changes, refl, (gives.Address (2 ^ 32 + 128), refl, refl)
 
 -- `watch` and `unwatch`, `limit` and `unlimit`, by what the participant has registered
 abbrev registered : Facts
-registered = record (facts []) { known = record (facts []).known { watchers = four; validators = cap false ∷ [] } }
+registered = record (facts []) { watchers = four; validators = cap false ∷ [] }
 
 a_watch : Leads (doing_of (line_of 0 (act.Watch (part (codes "w")))) (act.Watch (part (codes "w"))) (facts [])) [] (Doing.Ended answer.Done)
 unfolding Leads doing_of
@@ -171,7 +171,7 @@ a_long_limit = refl
 
 -- `attach`, and who is out: every other line but an `await` is refused
 abbrev out : Facts
-out = record (facts []) { known = record (facts []).known { attached = false } }
+out = record (facts []) { attached = false }
 
 an_attach : Leads (doing_of (line_of 1 act.Attach) act.Attach out) (Looked 2 ∷ CaughtUp 2 caught.Done ∷ []) (Doing.Ended (answer.Records 2))
 unfolding Goes Leads doing_of

@@ -105,7 +105,7 @@ module _ (workload : Workload) (table : Table) (rows : table.rows.items ≡ []) 
     until = λ joined. omega arith;
   }
 
-  registered_with_grants : IsRegisteredWithGrants 0 (opening_left workload 0) segs courses table watcher
+  registered_with_grants : IsRegisteredWithGrants 0 (opening_standing workload 0) segs courses table watcher
   registered_with_grants = record { is = registered; own = none_granted }
 
   abbrev WasTold : Listener → Type 0

@@ -54,16 +54,14 @@ line_of who act = record { line = 7; participant = who; act = act }
 
 abbrev facts : Option Request → Facts
 facts request = record {
-  known = record {
-    attached = true;
-    own_socket = 0;
-    pools = pools;
-    request = request;
-    maker = Some (record { line = 2; participant = 0; zone = true });
-    own_heap = None;
-    watchers = [];
-    validators = [];
-  };
+  attached = true;
+  own_socket = 0;
+  pools = pools;
+  request = request;
+  maker = Some (record { line = 2; participant = 0; zone = true });
+  own_heap = None;
+  watchers = [];
+  validators = [];
   chunks = [];
 }
 
@@ -159,7 +157,7 @@ unfolding Goes Leads doing_of
 no_place names fresh full = (
   names,
   refl,
-  ap (λ (fault : Option ZoneFault). reserving (directory_in pools names) (facts None).known (line_of 0 (zoning name 100 (options 0 None)))
+  ap (λ (fault : Option ZoneFault). reserving (directory_in pools names) (facts None) (line_of 0 (zoning name 100 (options 0 None)))
       name 100 (options 0 None) fault) (sym (no_place_beside (zones_in names) fresh full)),
 )
 
