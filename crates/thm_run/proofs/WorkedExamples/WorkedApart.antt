@@ -6,6 +6,7 @@ use Rattle.hp_heap.specs.History.{HeapView}
 use Rattle.hp_hall.specs.Mail.{Fetches, Gives, MailStep, Notes, Takes}
 use Rattle.hp_hall.specs.declared.kept.Kept.TheVariants.{Heap}
 use Rattle.hp_maps.specs.Events.{IsToldByAddress}
+use Rattle.hp_maps.specs.MapsView.{chunk_rows}
 use Rattle.hp_stats.specs.StatViews.{PenView}
 use Rattle.hp_hall.specs.declared.note.Note.TheVariants.{Emptied}
 use Rattle.hp_segs.specs.LaterSteps.{after_leave}
@@ -27,7 +28,7 @@ left_out (one ∷ roster) zero = refl
 left_out (one ∷ roster) (suc who) = left_out roster who
 
 module _ (segs : SegsView) (stays goes : Seat) (member : is_member segs.roster 1 ≡ true)
-    (unheard : IsToldByAddress goes.party.maps.rows goes.party.listeners []) where
+    (bare : chunk_rows goes.party.maps.rows ≡ []) (unheard : IsToldByAddress goes.party.maps.rows goes.party.listeners []) where
   -- participant 1 detaches; participant 0 finds no frame, and looks at what 1 left
   abbrev left : SegsView
   left = after_leave 1 segs
@@ -55,7 +56,7 @@ module _ (segs : SegsView) (stays goes : Seat) (member : is_member segs.roster 1
       (SeatTrace.handles stays stays stays left left [] [] (Handles.looks stays left) (SeatTrace.ends stays))
 
   way_of_1 : SeatTrace 2 1 goes out (steps 1)
-  way_of_1 = SeatTrace.handles goes out out segs left (Emptied ∷ []) [] (Handles.detaches goes segs [] (λ same. cc) refl unheard) (SeatTrace.ends out)
+  way_of_1 = SeatTrace.handles goes out out segs left (Emptied ∷ []) [] (Handles.detaches goes segs [] (λ same. cc) bare unheard) (SeatTrace.ends out)
 
   -- a heap that is taken is no hold of the segment value
   no_hold : (heap : HeapView) (pen : PenView) → holds_from 1 None (Takes 0 (Heap heap pen) ∷ Gives 0 (Heap heap pen) ∷ steps 1) ≡ hold 1 segs left ∷ []
