@@ -167,28 +167,14 @@ marked_as_noted hall secondary number none heap =
     (subst (λ (chunks : List OwnChunk). AreMarkedAs heap (marked_at hall 1 heap) chunks) (sym none.noted)
     (ap (map (own_chunk heap)) (none.unmarked heap)))
 
--- a line that attaches notes no chunk, and one that detaches leaves none
-pub attached_notes : {E P Q : Type 0} (result : Result Answer E) (line : Line) (old new : ParticipantView) (from to : HallState)
+-- a line that attaches notes no chunk
+pub attached_notes : {E : Type 0} (P Q : Type 0) (result : Result Answer E) (line : Line) (old new : ParticipantView) (from to : HallState)
     → line.act ≡ act.Attach → IfOk result (λ given. DoesLineHere old.party.me old new from to line given)
     → OnErr result (P × (new ≡ old) × Q) → new.context.standing.chunks ≡ old.context.standing.chunks
-attached_notes (Ok given) line old new from to attaches does err =
+attached_notes P Q (Ok given) line old new from to attaches does err =
     ap (λ (standing : Standing). standing.chunks) does.left
     ∙ ap (λ (deed : Act). chunks_after deed given does.does.trace old.context.standing.chunks) attaches
-attached_notes (Err e) line old new from to attaches does err = ap (λ (doer : ParticipantView). doer.context.standing.chunks) err.1
-
-detached_none : (given : Answer) (trace : List Done) (chunks : List OwnChunk) → chunks ≡ [] → chunks_after act.Detach given trace chunks ≡ []
-detached_none answer.Done trace chunks none = refl
-detached_none _ trace chunks none = none
-
-pub detached_notes : {E P Q : Type 0} (result : Result Answer E) (line : Line) (old new : ParticipantView) (from to : HallState)
-    → line.act ≡ act.Detach → old.context.standing.chunks ≡ [] → IfOk result (λ given. DoesLineHere old.party.me old new from to line given)
-    → OnErr result (old.context.standing.chunks ≡ [] → P × (new ≡ old) × Q) → new.context.standing.chunks ≡ []
-detached_notes (Ok given) line old new from to detaches none does err =
-    ap (λ (standing : Standing). standing.chunks) does.left
-    ∙ ap (λ (deed : Act). chunks_after deed given does.does.trace old.context.standing.chunks) detaches
-    ∙ detached_none given does.does.trace old.context.standing.chunks none
-detached_notes (Err e) line old new from to detaches none does err =
-    ap (λ (doer : ParticipantView). doer.context.standing.chunks) (err none).1 ∙ none
+attached_notes P Q (Err e) line old new from to attaches does err = ap (λ (doer : ParticipantView). doer.context.standing.chunks) err.1
 
 no_chunks_as : (old new : HallView) (secondary after : ParticipantView) → secondary.party.me ≡ 1
     → ChangesRoster secondary.party.me secondary after (plain_state old) (plain_state new) → after.context.standing.chunks ≡ []

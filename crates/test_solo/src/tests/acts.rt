@@ -30,9 +30,8 @@ pub(super) enum Act {
     Serves(usize),
     // The clock jumps to that reading.
     Jump(u64),
-    // Participant 1 does a line by which it attaches, or one by which it detaches, and answers so.
+    // Participant 1 does a line by which it attaches, and answers so.
     Attach(Answer),
-    Detach(Answer),
     // These participants are in the roster, as bits.
     Roster(u16),
     // The two participants have the numbers 0 and 1.
@@ -176,7 +175,6 @@ pub(super) fn perform(stage: &mut Stage<'_>, act: Act) -> Result<bool, AllocErro
             Ok(true)
         }
         Act::Attach(answer) => Ok(stage.attach()? == answer),
-        Act::Detach(answer) => Ok(stage.detach()? == answer),
         Act::Roster(roster) => Ok(stage.roster() == roster),
         Act::Numbered => Ok(stage.who() == (0, 1)),
         Act::Due(due) => Ok(stage.due() == (due, None)),

@@ -124,16 +124,6 @@ impl<'p> Stage<'p> {
         self.secondary.do_attach(&mut self.hall, &line)
     }
 
-    // Participant 1 does a line by which it detaches.
-    pub(super) fn detach(&mut self) -> Result<Answer, AllocError> {
-        let line = Line {
-            line: 1,
-            participant: 1,
-            act: Act::Detach,
-        };
-        self.secondary.do_detach(&mut self.hall, &line)
-    }
-
     // The participants in the roster, as bits.
     pub(super) fn roster(&mut self) -> u16 {
         let segs = take_segments(&mut self.hall, 0);

@@ -19,6 +19,6 @@ pub invariant_of-self : goal.invariant_of-self
 invariant_of-self c =
     staged_attached c.self.inside.hall c.do_attach.new.hall c.self.inside.primary c.self.inside.secondary c.do_attach.new.self c.do_attach.ensures.goes_on
     c.do_attach.ensures.changes
-    (attached_notes c.do_attach.result _ c.self.inside.secondary c.do_attach.new.self _ _ refl c.do_attach.ensures.does c.do_attach.ensures.err
+    (attached_notes _ _ c.do_attach.result _ c.self.inside.secondary c.do_attach.new.self _ _ refl c.do_attach.ensures.does c.do_attach.ensures.err
     ∙ c.self.invariant.2.noted)
     c.self.invariant
