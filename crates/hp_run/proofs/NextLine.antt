@@ -88,7 +88,7 @@ may_await count earlier _ now after is told = tt
 -- so many of the lines of courses are one's
 one_counted : (own : Bool) (course : Course) (rest : List Course) → cond own 1 0 + length rest ≡ length (cond own (course ∷ rest) rest)
 one_counted true course rest = omega arith
-one_counted false course rest = refl
+one_counted false course rest = omega arith
 
 own_counted : (who : ℕ) (courses : List Course)
     → lines_by who (map (λ (course : Course). course.line) courses) ≡ length (courses_of who courses)

@@ -97,6 +97,7 @@ does_later {held} {count} {did} {by} {doing} {rest} {old} {new} parts records lo
 pub line_later : {me : ℕ} {old new : ParticipantView} {from mid to : HallState} {line : Line} {given : Answer} (more : List MailStep)
     → DoesLineHere me old new from mid line given → Did me more mid to → ((heap : ℕ) → to.part me heap ≡ mid.part me heap) → IsLater mid to
     → DoesLine from.count (λ (steps : List MailStep). Did me (steps ++ more) from to) line given (moment me old from) (moment me new to)
+unfolding does_later
 line_later {me} {old} {new} {from} {mid} {to} {line} {given} more does did parts later =
     let seen = later.seen me in
     let heard = later.heard me in

@@ -1,5 +1,5 @@
 -- One of the participants goes away for its line, and comes back.
-use Rattle.std.proofs.Common.{◌≡◌, ◌∙◌, ℕ, ◌+◌, ◌<◌, ◌==◌, List, [], ◌∷◌, ◌++◌, Bool, false, length, set, take, Option, Some, None, refl, ap, sym, subst, arith}
+use Rattle.std.proofs.Common.{◌≡◌, ◌∙◌, ℕ, ◌+◌, ◌<◌, ◌==◌, List, [], ◌∷◌, ◌++◌, Bool, false, length, length-set, set, take, Option, Some, None, refl, ap, sym, subst, arith}
 use Rattle.std.specs.List.{slice_get}
 use Rattle.std.specs.Option.{option_map}
 use Rattle.std.proofs.lemmas.List.{length-map, length-take-le, take_more}
@@ -22,7 +22,7 @@ use Rattle.hp_proc.specs.LinesDone.{Course}
 use Rattle.hp_proc.specs.OwnChunks.{AreMarkedAs}
 use Rattle.hp_proc.specs.ParticipantView.{ParticipantView, knowing, participant_of}
 use Rattle.hp_proc.specs.Progress.{DoesLine, MayComeAndGo, MayDo, Moment, moment_of}
-use Rattle.hp_solo.specs.Solo.{IsAway, IsTiedFor, SoloView, limits_at, limits_in, limits_of, party_of, server_at, with_party}
+use Rattle.hp_solo.specs.Solo.{IsAway, IsTiedAt, IsTiedFor, SoloView, limits_at, limits_in, limits_of, party_of, server_at, with_party}
 use Rattle.hp_solo.specs.SoloState.{solo_state}
 use Rattle.thm_run.specs.EndLaws.{tells_one_more}
 use Rattle.thm_run.specs.SoFar.{SoFar, context_of, doer_of, standing_of}
@@ -175,7 +175,7 @@ do_told-answer-requires-clause-may g c =
       subst (λ (me : ℕ). MayComeAndGo me line.act) (sym number)
           (line_can workload c.args.place line c.requires.runnable c.requires.within c.index-line.ensures),
       line_awaits workload was.courses was.parties plain so_far c.args.place line (solo_state c.away.new.self) c.requires.runnable was.lines_are
-          c.requires.within c.index-line.ensures (all_count workload was.courses was.parties plain so_far) (λ other. refl),
+          c.requires.within c.index-line.ensures (all_count workload was.courses was.parties plain so_far) refl,
     )
 
 pub do_told-answer-requires-clause-few : goal.do_told-answer-requires-clause-few
@@ -242,6 +242,33 @@ do_told-answer-requires-clause-ready g c =
           → AreMarkedAs heap (part_in plain me heap).marked (standing_of workload line.participant was.courses).chunks) (sym number) its.chunks;
     })
 
+pub back-requires-clause-tied : goal.back-requires-clause-tied
+back-requires-clause-tied g c =
+    let always = c.do_told-answer.ensures in
+    let after : ParticipantView = c.do_told-answer.new.participant in
+    let plain = c.do_told-answer.new.hall.plain in
+    subst (λ (party : Party). IsTiedAt plain party.me party) (sym c.into_parts-judged.ensures.server)
+    (record {
+      number = refl;
+      tied = subst (λ (who : ℕ). IsTiedFor plain who after.party) (sym always.ready.same.me) always.ready.ready.idle.tied;
+    })
+
+pub put-requires : goal.put-requires
+put-requires g c =
+    let workload = c.args.workload.now in
+    let line = c.index-line.result.now in
+    let before = c.args.contexts.now in
+    let declared = line_declared workload c.args.place line c.requires.runnable c.requires.within c.index-line.ensures in
+    record {
+      within =
+          omega (
+            arith,
+            slice_get_within before line.participant _ (c.requires.so_far.know line.participant declared),
+            ap (λ (left : List (Option Context)). length left) c.take.ensures.left,
+            length-set before line.participant None,
+          );
+    }
+
 pub back-requires-clause-declared : goal.back-requires-clause-declared
 back-requires-clause-declared g c =
     let workload = c.args.workload.now in
@@ -272,7 +299,7 @@ returns g c =
     let was = can.done in
     let before = c.args.contexts.now in
     let doer : ParticipantView = c.new-participant.result in
-    let after : ParticipantView = c.do_told-answer.new.self in
+    let after : ParticipantView = c.do_told-answer.new.participant in
     let first = c.args.hall.now in
     let away = c.away.new.self in
     let back = c.do_told-answer.new.hall in

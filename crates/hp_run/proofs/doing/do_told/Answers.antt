@@ -37,12 +37,30 @@ store_done-requires g c =
     subst (λ (n : ℕ). HasLoadedLines n n found (solo_state mid) (solo_state loaded)) c.requires.own c.load_done-done.ensures.loaded in
     record {
       serves = subst (λ (n : ℕ). IsAway (server_at loaded.servers n)) (sym c.requires.own)
-          (ready_loaded me found c.args.participant.now c.do_line.new.self c.args.hall.now mid loaded c.args.line.now c.in_ok-answer.answer
+          (ready_loaded me found c.args.participant.now c.do_line.new.self c.args.hall.now mid loaded loaded c.args.line.now c.in_ok-answer.answer
           c.in_ok-answer.ensures.does again c.do_line.ensures.goes_on looked).idle.serves;
       may = subst (λ (n : ℕ). MayStore n (found + 1) (solo_state loaded)) (sym c.requires.own)
-          (may_tell me found c.args.participant.now c.do_line.new.self c.args.hall.now mid loaded c.args.line.now c.in_ok-answer.answer
+          (may_tell me found c.args.participant.now c.do_line.new.self c.args.hall.now mid loaded loaded c.args.line.now c.in_ok-answer.answer
           c.in_ok-answer.ensures.does again c.do_line.ensures.goes_on looked);
     }
+
+pub returns-in_err-answer-clause-clock : goal.returns-in_err-answer-clause-clock
+returns-in_err-answer-clause-clock g c = c.do_line.ensures.clock solo_clock
+
+pub overflow_add-done : goal.overflow_add-done
+overflow_add-done g c =
+    let me = c.args.participant.now.party.me in
+    let mid = c.do_line.new.hall in
+    let loaded = c.load_done-done.new.self in
+    let found = c.load_done-done.result in
+    let looked : HasLoadedLines me me found (solo_state mid) (solo_state loaded) =
+    subst (λ (n : ℕ). HasLoadedLines n n found (solo_state mid) (solo_state loaded)) c.requires.own c.load_done-done.ensures.loaded in
+    omega (
+      arith,
+      found_is me found c.args.participant.now c.do_line.new.self c.args.hall.now mid loaded loaded c.args.line.now c.in_ok-answer.answer
+          c.in_ok-answer.ensures.does c.do_line.ensures.ready c.do_line.ensures.goes_on looked,
+      c.requires.few,
+    )
 
 pub returns : goal.returns
 returns g c =
