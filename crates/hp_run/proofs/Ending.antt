@@ -190,6 +190,12 @@ module _ (workload : Workload) (answers : List Answer) (hall : SoloView) (done :
             (party_there hall.servers done.parties done.are who ∙ there);
       }
 
+      -- its names are those that the hall hands out
+      pub at_end_names : (tables : List Table) (sound : IsHall hall.plain) (leave : LeaveTables hall.servers tables)
+          → (at_end tables sound leave).names ≡ names
+      unfolding at_end
+      at_end_names tables sound leave = refl
+
       pub ends_so : (tables : List Table) → EndsSo → IsGiven workload → IsHall hall.plain → LeaveTables hall.servers tables
           → (end : IsSoloEnd workload answers heaps segs tables) × (end.end.courses ≡ done.courses)
       ends_so tables law given sound leave =

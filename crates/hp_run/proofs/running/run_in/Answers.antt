@@ -11,8 +11,9 @@ use Rattle.thm_run.specs.Freed.{AreShown}
 use Rattle.thm_run.specs.Handing.{AreJudged, AreOfLinesBefore, HaveStatistics, HaveWatchers, WatchersHaveGrants, listeners_in}
 use Rattle.thm_causes.specs.Notices.{NoticesAreHeard}
 use Rattle.hp_run.specs.Running.{HaveDoneLines}
+use Rattle.hp_zone.specs.declared.names.Names.{Names as NamesView}
 use Rattle.hp_run.proofs.Coming.{given_by}
-use Rattle.hp_run.proofs.Ending.{all_in, at_end, came_by, ends_so, first_sound, leave_listeners, names_agree, names_opened, names_sound, segs_there}
+use Rattle.hp_run.proofs.Ending.{all_in, at_end, at_end_names, came_by, ends_so, first_sound, leave_listeners, names_agree, names_opened, names_sound, segs_there}
 use Rattle.hp_run.proofs.FailureLemmas.{fail_so}
 use Rattle.hp_run.proofs.LevelLemmas.{level_so}
 use Rattle.hp_run.proofs.ReasonLemmas.{may_run, notices_so, reasons_so}
@@ -67,13 +68,15 @@ returns g c =
     let names =
     c.names_end_law.ensures workload done.courses answers done.parties last.plain heaps left.segs tables given done.so_far at_the_end
     done.counted in
+    let same = at_end_names workload answers last done heaps left.segs left.names out tables sound c.in_ok-tables.ensures.tables in
     let leave = leave_listeners workload answers last done heaps left.segs left.names out watchers c.in_ok-tables.ensures.watchers in
     record {
       end = record {
         end = ended.0;
         names_end = subst (λ (courses : List Course). EndsWithNames workload courses (shared_of left.names) heaps left.segs tables) (sym ended.1)
-            names.0;
-        in_order = subst (λ (courses : List Course). AreHandedInOrder workload courses (shared_of left.names) heaps) (sym ended.1) names.1;
+            (subst (λ (handed : NamesView). EndsWithNames workload done.courses (shared_of handed) heaps left.segs tables) same names.0);
+        in_order = subst (λ (courses : List Course). AreHandedInOrder workload courses (shared_of left.names) heaps) (sym ended.1)
+            (subst (λ (handed : NamesView). AreHandedInOrder workload done.courses (shared_of handed) heaps) same names.1);
         notices = subst (λ (courses : List Course). NoticesAreHeard workload.plan.items courses left.segs.asks) (sym ended.1)
             (notices_so workload answers last left.segs c.requires.runnable c.notices_law.ensures done shown);
         drops = λ nothing.
