@@ -35,9 +35,8 @@ abbrev pub IsStaged : HallView → Party → Party → Type 0
 IsStaged hall primary secondary = (length hall.owns ≡ 2) × IsHome (slot_at hall MAX_HEAPS) × IsTiedAt hall 0 primary × IsTiedAt hall 1 secondary
 
 -- participant 1 has attached no chunk
-pub record HasNoChunks (hall : HallView) (secondary : ParticipantView) : Type 0 where
-  pub noted : secondary.context.standing.chunks ≡ []
-  pub unmarked : (heap : ℕ) → marked_at hall 1 heap ≡ []
+abbrev pub HasNoChunks : HallView → ParticipantView → Type 0
+HasNoChunks hall secondary = (secondary.context.standing.chunks ≡ []) × ((heap : ℕ) → marked_at hall 1 heap ≡ [])
 
 -- and participant 1 is in the roster where its lines left it attached
 abbrev pub IsStagedWith : HallView → Party → ParticipantView → Type 0
@@ -51,7 +50,7 @@ AreMarkedAlike old new = (who heap : ℕ) → marked_at new who heap ≡ marked_
 no_chunks_still : (old new : HallView) (secondary after : ParticipantView) → ((heap : ℕ) → marked_at new 1 heap ≡ marked_at old 1 heap)
     → after.context.standing.chunks ≡ secondary.context.standing.chunks → HasNoChunks old secondary → HasNoChunks new after
 no_chunks_still old new secondary after marks same none =
-    record { noted = same ∙ none.noted; unmarked = λ heap. marks heap ∙ none.unmarked heap }
+    (same ∙ none.0, λ heap. marks heap ∙ none.1 heap)
 
 -- who is tied to a hall of two is one of its participants, and tied by its own number
 pub is_declared : (hall : HallView) (who : ℕ) (party : Party) → length hall.owns ≡ 2 → who < 2 → IsTiedAt hall who party
@@ -164,8 +163,8 @@ pub marked_as_noted : (hall : HallView) (secondary : ParticipantView) → second
     → AreMarkedAs heap (marked_at hall secondary.party.me heap) secondary.context.standing.chunks
 marked_as_noted hall secondary number none heap =
     subst (λ (n : ℕ). AreMarkedAs heap (marked_at hall n heap) secondary.context.standing.chunks) (sym number)
-    (subst (λ (chunks : List OwnChunk). AreMarkedAs heap (marked_at hall 1 heap) chunks) (sym none.noted)
-    (ap (map (own_chunk heap)) (none.unmarked heap)))
+    (subst (λ (chunks : List OwnChunk). AreMarkedAs heap (marked_at hall 1 heap) chunks) (sym none.0)
+    (ap (map (own_chunk heap)) (none.1 heap)))
 
 -- a line that attaches notes no chunk
 pub attached_notes : {E : Type 0} (P Q : Type 0) (result : Result Answer E) (line : Line) (old new : ParticipantView) (from to : HallState)
@@ -180,16 +179,15 @@ no_chunks_as : (old new : HallView) (secondary after : ParticipantView) → seco
     → ChangesRoster secondary.party.me secondary after (plain_state old) (plain_state new) → after.context.standing.chunks ≡ []
     → HasNoChunks old secondary → HasNoChunks new after
 no_chunks_as old new secondary after number changes noted none =
-    let now = changes.chunks (marked_as_noted old secondary number none) in
-    record {
-      noted = noted;
-      unmarked = λ heap.
+    let now = changes.chunks (marked_as_noted old secondary number none) in (
+      noted,
+      λ heap.
           none_marked heap (marked_at new 1 heap)
           (subst (λ (chunks : List OwnChunk). AreMarkedAs heap (marked_at new 1 heap) chunks) noted
-          (subst (λ (n : ℕ). AreMarkedAs heap (marked_at new n heap) after.context.standing.chunks) number (now heap)));
-    }
+          (subst (λ (n : ℕ). AreMarkedAs heap (marked_at new n heap) after.context.standing.chunks) number (now heap))),
+    )
 
--- after participant 1 has attached or detached
+-- after participant 1 has attached
 pub staged_attached : (old new : HallView) (primary : Party) (secondary after : ParticipantView) → IsCourse old new
     → ChangesRoster secondary.party.me secondary after (plain_state old) (plain_state new) → after.context.standing.chunks ≡ []
     → IsStagedWith old primary secondary → IsStagedWith new primary after

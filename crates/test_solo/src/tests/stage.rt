@@ -25,19 +25,20 @@ pub(super) struct Stage<'p> {
 }
 
 impl<'p> Model for Stage<'p> {
-    ghost use Rattle.std.specs.Prelude.{◌≡◌, length};
+    ghost use Rattle.std.specs.Prelude.{◌≡◌, ℕ, [], length};
     ghost use Rattle.hp_base.specs.declared.limits.TheConstants.{MAX_HEAPS};
     ghost use Rattle.hp_plain.specs.HallView.{HallView, IsHome, joined_in, slot_at};
-    ghost use Rattle.hp_solo.specs.Solo.{IsTiedAt};
+    ghost use Rattle.hp_solo.specs.Solo.{IsTiedAt, marked_at};
 
     ghost Value = { HallView };
 
     ghost view = { λ a. a.hall };
 
     // The segment value is there, each participant's table is tied to what the hall knows of it, and participant 1 is in the roster where
-    // its lines left it attached.
+    // its lines left it attached. It has attached no chunk.
     ghost invariant = { λ a. ((length a.hall.owns ≡ 2) × IsHome (slot_at a.hall MAX_HEAPS) × IsTiedAt a.hall 0 a.primary
-        × IsTiedAt a.hall 1 a.secondary.party) × (joined_in a.hall 1 ≡ a.secondary.context.standing.attached) };
+        × IsTiedAt a.hall 1 a.secondary.party) × (joined_in a.hall 1 ≡ a.secondary.context.standing.attached)
+        × ((a.secondary.context.standing.chunks ≡ []) × ((heap : ℕ) → marked_at a.hall 1 heap ≡ [])) };
 }
 
 // What the segment value and the tables show.

@@ -1,5 +1,5 @@
 -- Participant 1 does its line, and participant 0 stays as it was.
-use Rattle.std.proofs.Common.{◌≡◌, ℕ, refl, sym, subst, arith}
+use Rattle.std.proofs.Common.{◌≡◌, ◌∙◌, ℕ, refl, sym, subst, arith}
 use Rattle.hp_plain.specs.HallView.{joined_in}
 use Rattle.test_solo.proofs.Callers.{stage_can}
 use Rattle.hp_serve.proofs.SegmentSlots.{may_hold}
@@ -20,5 +20,5 @@ invariant_of-self c =
     staged_attached c.self.inside.hall c.do_attach.new.hall c.self.inside.primary c.self.inside.secondary c.do_attach.new.self c.do_attach.ensures.goes_on
     c.do_attach.ensures.changes
     (attached_notes _ _ c.do_attach.result _ c.self.inside.secondary c.do_attach.new.self _ _ refl c.do_attach.ensures.does c.do_attach.ensures.err
-    ∙ c.self.invariant.2.noted)
+    ∙ c.self.invariant.2.0)
     c.self.invariant

@@ -43,8 +43,8 @@ invariant_of-result c =
           c.in_ok-primary.ensures.number c.in_ok-server.ensures.number c.in_ok-primary.ensures.joined c.in_ok-server.ensures.joined
           c.in_ok-primary.ensures.tied c.in_ok-server.ensures.tied)),
       joins 1 ∙ (opening.joined 1 (omega arith) ∙ sym (ap (λ (context : Context). context.standing.attached) c.new-context.ensures)),
-      record {
-        noted = ap (λ (context : Context). context.standing.chunks) c.new-context.ensures;
-        unmarked = λ heap. marks 1 heap ∙ c.in_ok-hall.ensures.unmarked 1 heap;
-      },
+      (
+        ap (λ (context : Context). context.standing.chunks) c.new-context.ensures,
+        λ heap. marks 1 heap ∙ c.in_ok-hall.ensures.unmarked 1 heap,
+      ),
     )
