@@ -120,6 +120,52 @@ const ATTACHED: [Row; 3] = [
     ),
 ];
 
+// One that went comes back and maps what there is then, or a mapping call of its is refused or goes elsewhere, and it tries again.
+const AGAIN: [Row; 4] = [
+    (
+        "participants 2\npool 0 2M 4\n0 alloc a 1000\n1 attach\n1 detach\n1 detach\n1 attach\n",
+        &[
+            "line 4 1 attach already",
+            "line 5 1 detach ok",
+            "line 6 1 detach detached",
+            "line 7 1 attach ok 1",
+            "table 1 in 1 1",
+            "map 1 0x100000000 2097152 0",
+        ],
+    ),
+    (
+        "participants 2\npool 0 2M 4\n1 detach\n0 alloc a 1000\n1 detach\n1 attach\n",
+        &[
+            "line 3 1 detach ok",
+            "line 5 1 detach detached",
+            "line 6 1 attach ok 1",
+            "ask 0 1 granted 1",
+            "table 1 in 1 1",
+            "map 1 0x100000000 2097152 0",
+        ],
+    ),
+    (
+        "participants 2\npool 0 2M 4\nrefuse 1 2\n0 alloc a 1000\n1 detach\n1 attach\n1 attach\n",
+        &[
+            "line 5 1 detach ok",
+            "line 6 1 attach refused 2",
+            "line 7 1 attach ok 1",
+            "table 1 in 1 1",
+            "map 1 0x100000000 2097152 0",
+        ],
+    ),
+    (
+        "participants 2\npool 0 2M 4\nelsewhere 1 2\n0 alloc a 1000\n1 detach\n1 attach\n1 attach\n",
+        &[
+            "line 5 1 detach ok",
+            "line 6 1 attach refused 2",
+            "line 7 1 attach ok 1",
+            "table 1 in 1 1",
+            "map 1 0x100000000 2097152 0",
+        ],
+    ),
+];
+
 #[test]
 fn serves_while_one_does_its_line(rt: HostRuntime) -> Result<(), Fail> {
     report(&rt, rt.alloc(), &SERVED)
@@ -133,4 +179,9 @@ fn goes_on_without_one_that_is_late(rt: HostRuntime) -> Result<(), Fail> {
 #[test]
 fn attaches_and_detaches(rt: HostRuntime) -> Result<(), Fail> {
     report(&rt, rt.alloc(), &ATTACHED)
+}
+
+#[test]
+fn attaches_again(rt: HostRuntime) -> Result<(), Fail> {
+    report(&rt, rt.alloc(), &AGAIN)
 }
