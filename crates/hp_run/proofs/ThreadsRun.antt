@@ -18,6 +18,7 @@ use Rattle.thm_run.specs.EndLaws.{FailsFor}
 use Rattle.thm_run.specs.Handing.{HaveStatistics, HaveWatchers, listeners_in}
 use Rattle.thm_home.specs.EndOfThreads.{HandedOnThreads, MayFailAt, MayFailSo, ThreadsEnd}
 use Rattle.hp_threads.specs.Running.{ThreadsLeave}
+use Rattle.thm_alike.proofs.GivenAttached.{ends_give_attached}
 use Rattle.hp_run.specs.Apart.{AreBegunOver, IsEndOnThreads}
 use Rattle.hp_run.specs.Ending.{AreNamed, IsRunEnd}
 use Rattle.hp_run.specs.Failures.{IsFailedAsPlanned, IsFailureNamed, IsRefusedAt, IsUnsteady}
@@ -77,7 +78,12 @@ module _ (workload : Workload) (mappers : List (Option (List FailingCall))) (fir
       watched = watched;
       statistics = statistics;
       named = named;
-      agreed = record { alike = ends.alike; pages = ends.pages; restored = ends.no_row };
+      agreed = record {
+        alike = ends.alike;
+        pages = ends.pages;
+        attached = ends_give_attached workload answers heaps segs tables ends.end;
+        restored = ends.no_row;
+      };
       nothing_found = ends.nothing_found;
       restored = record { calls = ends.calls; leads = ends.leads; growths = ends.growths; answering = ends.answering };
     }

@@ -23,6 +23,7 @@ use Rattle.thm_run.specs.Freed.{AreShown}
 use Rattle.thm_run.specs.Handing.{AreJudged, AreOfLinesBefore, HaveStatistics, HaveWatchers, WatchersHaveGrants}
 use Rattle.thm_run.specs.SoFar.{first_segs}
 use Rattle.thm_alike.specs.Alike.{PagesAlike, TablesAlike}
+use Rattle.thm_alike.specs.Given.{GivesAttached}
 use Rattle.thm_alike.specs.Restored.{FailuresLeaveNoRow, GrowthsRestore, TablesRestore}
 use Rattle.hp_solo.specs.Solo.{AloneView}
 use Rattle.thm_causes.specs.Counting.{LosesNothing}
@@ -46,11 +47,12 @@ pub record AreAsMay (workload : Workload) (servers : List AloneView) (answers : 
   pub refusals : RefuseAsMay servers workload.lines.items answers
   pub refused_once : RefuseOnce workload.lines.items answers
 
--- what agreement gives at the end: each attached participant maps each segment in use, and with that each page of each heap, alike; and a
--- growth that failed left no row
+-- what agreement gives at the end: each attached participant maps each segment in use, and with that each page of each heap, alike; memory of
+-- chunks was given to those alone who had attached them; and a growth that failed left no row
 pub record IsAgreed (heaps : List HeapView) (segs : SegsView) (tables : List Table) : Type 0 where
   pub alike : TablesAlike segs tables
   pub pages : PagesAlike heaps segs tables
+  pub attached : All GivesAttached heaps
   pub restored : FailuresLeaveNoRow segs.log
 
 -- nothing is left to do at the end: all that heaps gave up has gone back, so no segment is Retiring, and each participant that is attached
@@ -95,8 +97,8 @@ pub record HasRestored (workload : Workload) (segs : SegsView) (tables : List Ta
 -- what a run has come to, in whatever order its participants' steps came: an end of the workload, and of its names: directory, claimed memory,
 -- chunks and marks agree, and each line was handed fronts of the names and of external heaps. Each participant has its watchers, each told
 -- of its table; and each statistics that a line was answered are those of a front of the heap's history, with its own calls. A mapping failed, for a growth or for a
--- line that attaches, only where the plan or the mapper is why, and at no call twice; all who are attached map what is in use alike, and a
--- growth that failed left no row. An allocation that is answered that there is no memory found no address in its heaps and was granted
+-- line that attaches, only where the plan or the mapper is why, and at no call twice; all who are attached map what is in use alike, memory of
+-- chunks was given to those alone who had attached them, and a growth that failed left no row. An allocation that is answered that there is no memory found no address in its heaps and was granted
 -- nothing (that it tried all of them, and all page sizes, is in what its line does); and a growth that failed left all else as the other
 -- calls meanwhile would have left it
 pub record IsRunEnd (workload : Workload) (mappers : List (Option (List FailingCall))) (answers : List Answer) (heaps : List HeapView)

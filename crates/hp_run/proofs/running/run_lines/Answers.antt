@@ -46,6 +46,7 @@ returns-clause-end g c =
         agreed = record {
           alike = c.alike_law.ensures.at_end workload left.answers.items left.heaps.items left.segs left.tables.items end.end;
           pages = c.alike_law.ensures.pages workload left.answers.items left.heaps.items left.segs left.tables.items end.end;
+          attached = c.alike_law.ensures.attached workload left.answers.items left.heaps.items left.segs left.tables.items end.end;
           restored = c.restoring_law.ensures.tables left.segs end.end.segs_sound;
         };
         nothing_found = λ who below.
