@@ -1,14 +1,11 @@
 -- Memory of a heap for external memory is given only where the participant has attached its chunk.
-use Rattle.std.proofs.Common.{◌≡◌, ◌∙◌, ℕ, ◌+◌, ◌<◌, ◌≤◌, Bool, true, ◌&&◌, ◌||◌, ◌==◌, nat_le, List, [], ◌∷◌, ◌++◌, map, Option, Some, None, is_some, Contains, count_by, eqb, eq-eqb, refl, ap, sym, subst, arith}
+use Rattle.std.proofs.Common.{◌≡◌, ◌∙◌, ℕ, ◌+◌, ◌-◌, ◌<◌, ◌≤◌, Bool, true, ◌&&◌, ◌||◌, ◌==◌, nat_le, List, [], ◌∷◌, ◌++◌, map, Option, None, is_some, Contains, count_by, eqb, eq-eqb, refl, ap, subst, arith}
 use Rattle.std.specs.List.{list_any}
 use Rattle.std.proofs.lemmas.Bool.{and_from, and_parts, le-leb, leb-true, lt-ltb, ltb-true}
 use Rattle.std.proofs.lemmas.List.Elements.{All-weaker}
 use Rattle.hp_base.specs.Flags.{has_bit}
 use Rattle.hp_base.specs.declared.chunk.Chunk.{Chunk}
-use Rattle.hp_base.specs.declared.request.Request.{Request}
 use Rattle.hp_base.specs.declared.span.Span.{Span}
-use Rattle.hp_base.specs.declared.tag.Caller.{Caller}
-use Rattle.hp_base.specs.declared.tag.Tag.{Tag}
 use Rattle.hp_hall.proofs.StandingFacts.StandingLists.{found_in}
 use Rattle.hp_heap.proofs.AllocFacts.ChoiceLaw.{eligible-candidate}
 use Rattle.hp_heap.proofs.FreeFacts.EntriesLaw.{entries_are_answered}
